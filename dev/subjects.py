@@ -8,7 +8,7 @@ SUBJECTS = {
     ),
     "route": (
         "RouteLemmas, PathWords, entry_of, roll_is_asked_by_post, ACTS, ROUTES, routes_of, read_path, asked, "
-        "closed.rt"
+        "ServedSheets, closed.rt"
     ),
     "order of fields": "entry_of, demand.rt, ACTS, bad field, fields.rt",
     "valid desk": "Valid, Damaged, IsRightlyChosen, check_tables, valid desk, sample.rattle",

@@ -239,14 +239,14 @@ class Answers(ActCase):
 
     def test_a_vote_that_is_lost_must_be_sent_again_with_its_token(self):
         with answering(b"") as (port, _):
-            told = NO_ANSWER.replace("the desk may have accepted the act, so look at the status", VOTE_AGAIN)
-            self.assertEqual(act(port, "vote", "1", "login=d1", given=b"12\ntokenA01\n"), lost(told))
+            message = NO_ANSWER.replace("the desk may have accepted the act, so look at the status", VOTE_AGAIN)
+            self.assertEqual(act(port, "vote", "1", "login=d1", given=b"12\ntokenA01\n"), lost(message))
 
     def test_where_nobody_listens_nothing_was_sent(self):
         with socket.create_server((LOCAL, 0)) as listener:
             port = listener.getsockname()[1]
-        told = lost(f"nothing was sent: port {port} of 127.0.0.1: Connection refused")
-        self.assertEqual(act(port, "close", "1"), told)
+        message = lost(f"nothing was sent: port {port} of 127.0.0.1: Connection refused")
+        self.assertEqual(act(port, "close", "1"), message)
 
     def test_an_answer_that_cannot_be_printed_is_lost(self):
         with answering(response(200, "ok 1\n")) as (port, _), open("/dev/full", "wb") as full:
@@ -302,8 +302,8 @@ class Terminals(ActCase):
     def test_a_vote_that_is_not_confirmed_is_not_sent(self):
         for no in b"n\n", b"\n", b"\x04", b"\xff\n":
             with self.subTest(no=no):
-                told = b"nothing was sent: the vote was not confirmed\r\n"
-                _, status = at_terminal(1, (RANKS, b"12\n"), (TOKEN_ASKED, b"\n"), (SURE, no), (told, b""))
+                message = b"nothing was sent: the vote was not confirmed\r\n"
+                _, status = at_terminal(1, (RANKS, b"12\n"), (TOKEN_ASKED, b"\n"), (SURE, no), (message, b""))
                 self.assertEqual(status, 1)
 
     def test_a_terminal_that_ends_before_the_token_or_gives_no_utf_8_is_named(self):

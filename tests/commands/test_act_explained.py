@@ -42,11 +42,11 @@ class ExplainedRuns(Case):
         """Without --explain an act prints what is expected, by one connection. With it a detail stands there besides,
         by so many connections."""
         with_detail = expected._replace(err=expected.err + said(detail))
-        for option, connections, told in ([], 1, expected), (["--explain"], count, with_detail):
+        for option, connections, message in ([], 1, expected), (["--explain"], count, with_detail):
             with self.subTest(option=option), serve(self.copy_of(file), connections, "--at", at) as desk:
                 streams = {"stdin": self.ballot(ballot)} if ballot else {}
                 ran = tool("act", "--port", desk.port, *option, *words, **streams)
-                self.assertEqual(ran, told)
+                self.assertEqual(ran, message)
                 self.assertEqual(desk.ended(), Ran(0, b"", b""), "serve, after its last connection")
 
     def test_a_refused_casting_vote_is_explained_by_a_port_with_one_further_connection(self):
@@ -75,8 +75,8 @@ class ExplainedRuns(Case):
         self.assertEqual((ran.status, ran.err), (0, said("the vote of d4, N", *ranks)))
 
     def test_voters_before_the_close_are_refused_with_what_that_means(self):
-        told = f"gr-desk voters: refused 24 NotRevealed: {MEANINGS['NotRevealed']}\n"
-        self.assertEqual(tool("voters", self.copy_of(self.called), 1), Ran(1, b"", told.encode()))
+        message = f"gr-desk voters: refused 24 NotRevealed: {MEANINGS['NotRevealed']}\n"
+        self.assertEqual(tool("voters", self.copy_of(self.called), 1), Ran(1, b"", message.encode()))
 
     def test_what_the_page_of_examples_shows_comes_so(self):
         file = self.folder() / "examples.db"

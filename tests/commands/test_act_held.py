@@ -53,8 +53,8 @@ class HeldActs(JournalCase):
                 reports(words, self.came[words], status, *texts)
 
     def test_a_list_has_until_when_an_act_is_held(self):
-        told = "held until 2026-01-04T00:00:00Z", "held after those before it"
-        reports("the list", self.desk.tool("list"), 0, *told)
+        message = "held until 2026-01-04T00:00:00Z", "held after those before it"
+        reports("the list", self.desk.tool("list"), 0, *message)
 
     def test_due_enters_what_may_be_entered_and_names_the_first_whose_time_has_not_come(self):
         desk = self.copy_of(self.desk)
@@ -74,15 +74,15 @@ class HeldActs(JournalCase):
         reports("an objection", self.drop, 0, "ok", "gr-desk journal due enters it")
         line = json.loads(self.dropped.lines()[-1])
         self.assertEqual((line["form"], line["line"], line["source"]["message_id"]), (2, "dropped", "<no@d4>"))
-        told = "dropped\n      source of the objection: Message-ID <no@d4>, SHA-256 "
-        reports("the list", self.dropped.tool("list"), 0, told)
+        message = "dropped\n      source of the objection: Message-ID <no@d4>, SHA-256 "
+        reports("the list", self.dropped.tool("list"), 0, message)
 
     def test_due_says_after_which_act_its_journal_took_no_more(self):
         desk = self.copy_of(self.desk)
         line = ["journal", "due", "--journal", desk.journal]
         ran = desk.run(*line, environment=failing(self.folder(), lines=2))
-        told = f"nothing more was sent after 5: {desk.journal} cannot be written: No space left on device; 6 is still "
-        reports("due on a full disk", ran, 3, "5: ok 6\n", f"{told}on hold: mend that, and run gr-desk journal due")
+        message = f"nothing more was sent after 5: {desk.journal} cannot be written: No space left on device; 6 is still "
+        reports("due on a full disk", ran, 3, "5: ok 6\n", f"{message}on hold: mend that, and run gr-desk journal due")
         is_silent("due on a full disk", ran, "nothing was sent")
         reports("the next due", desk.tool("due"), 0, "6: ok 7\n8 (amend")
 
@@ -148,8 +148,8 @@ class LostHolds(JournalCase):
 
     def test_a_call_overtakes_no_held_act(self):
         ran = self.copy_of(self.desk).act("--at", CALLED, *CALL[1])
-        told = "are on hold, 5, 6, 7: first run gr-desk journal due"
-        reports("a call that overtakes", ran, 1, "nothing was sent: ", told)
+        message = "are on hold, 5, 6, 7: first run gr-desk journal due"
+        reports("a call that overtakes", ran, 1, "nothing was sent: ", message)
 
     def test_an_act_that_overtakes_by_yes_and_is_refused_has_none_dropped(self):
         desk = self.copy_of(self.desk)
@@ -167,8 +167,8 @@ class LostHolds(JournalCase):
         lost = "5 (sponsor 1 choice=1 login=d3) is on hold with an earlier date, and is lost if this act is accepted"
         reports("one that overtakes", ran, 0, "ok 5", lost)
         reports("the list", desk.tool("list"), 0, "dropped")
-        told = f"gr-desk journal: Already: {MEANINGS['Already']}\ngr-desk journal: d2 sponsors choice 1\n"
-        reports("one that is refused", desk.tool("due"), 1, "6: refused 17 Already\n", told)
+        message = f"gr-desk journal: Already: {MEANINGS['Already']}\ngr-desk journal: d2 sponsors choice 1\n"
+        reports("one that is refused", desk.tool("due"), 1, "6: refused 17 Already\n", message)
         reports("the next", desk.tool("due"), 0, "7: ok 6")
         reports("the check", desk.tool("check"), 0, "ok")
 
@@ -261,8 +261,8 @@ class HeldCalls(JournalCase):
         desk = self.copy_of(self.desk)
         before = desk.rows(), desk.lines()
         yes = "with --yes 6 is entered all the same, and gr-desk journal drop 6 "
-        told = f"when all of its time for votes is over; {yes}"
-        reports("due", desk.tool("due"), 1, "nothing was sent: the call comes ", told)
+        message = f"when all of its time for votes is over; {yes}"
+        reports("due", desk.tool("due"), 1, "nothing was sent: the call comes ", message)
         self.assertEqual((desk.rows(), desk.lines()), before, "the desk and its journal")
 
     def test_due_enters_it_with_yes(self):
@@ -276,8 +276,8 @@ class HeldCalls(JournalCase):
         for words in [*SPONSOR, "login=d3"], CALL[1]:
             self.assertEqual(desk.act("--at", CALLED, "--hold", "1h", *words).status, 0)
         ran = desk.tool("due")
-        told = "nothing more was sent after 6: the call comes "
-        reports("due", ran, 1, "6: ok 6", told, "with --yes 7 is entered all the same")
+        message = "nothing more was sent after 6: the call comes "
+        reports("due", ran, 1, "6: ok 6", message, "with --yes 7 is entered all the same")
         is_silent("due", ran, "nothing was sent")
 
     def test_a_list_takes_no_yes(self):

@@ -218,8 +218,8 @@ class Sources(JournalCase):
         amend = ["--source", "<h@d1>", *DISCUSSION[4][1]]
         reports("one that waits", desk.act("--at", PROPOSED_AT, "--hold", "24h", *amend), 0, "held 7 ")
         ran = desk.act("--at", PROPOSED_AT, *amend)
-        told = "7 (amend 1 choice=1 minor=0 summary=Crimson) has the same source, and is held"
-        reports("the same again", ran, 1, told)
+        message = "7 (amend 1 choice=1 minor=0 summary=Crimson) has the same source, and is held"
+        reports("the same again", ran, 1, message)
         # A --yes for the source gives up no held act: this one waits too.
         mail = self.mail(b"Message-ID: <87x@d1>\n\nI propose it.\n")
         words = ["--yes", "--source", f"@{mail}", "withdraw", "2", "choice=1"]
@@ -325,16 +325,16 @@ class BadJournals(JournalCase):
         for wrong in [*cut, *(json.dumps(line).encode() + b"\n" for line in made)]:
             with self.subTest(line=wrong):
                 desk = self.with_third_line(wrong)
-                told = f"line 3 of {desk.journal} has a form that this tool does not know"
-                self.assertEqual(why_unread(desk.journal), told)
+                message = f"line 3 of {desk.journal} has a form that this tool does not know"
+                self.assertEqual(why_unread(desk.journal), message)
 
     def test_a_tool_fails_where_the_journal_has_a_line_of_an_unknown_form(self):
         third = json.loads(self.made(DISCUSSION).lines()[2]) | {"number": "7"}
         desk = self.with_third_line(json.dumps(third).encode() + b"\n")
-        told = f"line 3 of {desk.journal} has a form that this tool does not know"
+        message = f"line 3 of {desk.journal} has a form that this tool does not know"
         for words, ran in ("act", desk.act("close", "1")), ("list", desk.tool("list")):
             with self.subTest(words=words):
-                reports(words, ran, 3, told)
+                reports(words, ran, 3, message)
 
     def test_a_desk_is_no_journal(self):
         desk = self.made(DISCUSSION)
@@ -365,8 +365,8 @@ class BadJournals(JournalCase):
             check=False,
             preexec_fn=lambda: resource.setrlimit(resource.RLIMIT_FSIZE, (limit, limit)),
         )
-        told = f"nothing was sent: {desk.journal} cannot be written: File too large"
-        reports("a journal that is full", Ran(ran.returncode, ran.stdout, ran.stderr), 3, told)
+        message = f"nothing was sent: {desk.journal} cannot be written: File too large"
+        reports("a journal that is full", Ran(ran.returncode, ran.stdout, ran.stderr), 3, message)
         self.assertEqual(desk.rows(), held, "the rows after it")
         reports("the next act", desk.act(*vary), 0, "ok 6", "was cut off by a stop")
         reports("the check after it", desk.tool("check"), 0, "ok")

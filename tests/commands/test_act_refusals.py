@@ -98,8 +98,8 @@ class Refusals(JournalCase):
         with serve(desk.file, 1):
             for words, run in ("act", lambda: desk.act("close", "1")), ("replay", lambda: desk.tool("replay")):
                 with self.subTest(words=words):
-                    told = "nothing was sent: another process holds ", "systemctl stop gr_desk"
-                    reports("a desk that is held", run(), 3, *told)
+                    message = "nothing was sent: another process holds ", "systemctl stop gr_desk"
+                    reports("a desk that is held", run(), 3, *message)
         self.assertEqual(desk.lines(), kept)
 
 

@@ -149,8 +149,8 @@ class WrongAddresses(Case):
                 ("GR_DESK_SOCKET", lambda: act(None, "close", "1", env={"GR_DESK_SOCKET": name})),
             ]:
                 with self.subTest(name=name, words=words):
-                    told = wrong(f"the name of a socket has 1 to 107 bytes, and not {len(name)}")
-                    self.assertEqual(ran(), told)
+                    message = wrong(f"the name of a socket has 1 to 107 bytes, and not {len(name)}")
+                    self.assertEqual(ran(), message)
 
     def test_a_port_and_a_socket_do_not_go_together(self):
         with self.subTest(words="by words"):

@@ -132,7 +132,7 @@ class Written(Commands):
 
 class Words(Commands):
     def test_words_that_are_wrong_are_named(self):
-        for words, told in (
+        for words, message in (
             (["vote", "desk.db", "1"], "there is no command 'vote'; the commands are form, call, read"),
             (["form", "desk.db", "1", "x"], "form has a word too many: 'x'; gr-desk ballot --help says more"),
             (["call", "desk.db", "1", "x"], "call has a word too many: 'x'; gr-desk ballot --help says more"),
@@ -140,7 +140,7 @@ class Words(Commands):
             (["form", "desk.db", "01"], "R is the number of a resolution, and not '01'"),
         ):
             with self.subTest(words=words):
-                self.assertEqual(stopped(Wrong, self.run_of, *words), told)
+                self.assertEqual(stopped(Wrong, self.run_of, *words), message)
 
     def test_a_file_with_no_mail_is_refused(self):
         box = self.folder() / "box"

@@ -44,8 +44,8 @@ class FullDisk(Case):
     def test_votes_names_the_disk_and_the_next_run_enters_each_ballot_once(self):
         with self.full(self.file.stat().st_size + LEFT):
             ran = self.vote.run()
-        told = f"the desk failed at the vote of d1 ({self.vote.came.place}/d1.txt), by fault F2 Store: the disk of"
-        says("a run on a full disk", ran, 3, f"{told} {self.disk} has only ", "0 votes of 2 entered",
+        message = f"the desk failed at the vote of d1 ({self.vote.came.place}/d1.txt), by fault F2 Store: the disk of"
+        says("a run on a full disk", ran, 3, f"{message} {self.disk} has only ", "0 votes of 2 entered",
              " bytes left. Make room there, and then run this again. Nothing is lost")
         says("a run with room", self.vote.run(), 0, "2 votes of 2 entered")
         self.assertEqual({login: row[2] for login, row in self.vote.ballots().items()}, {"d1": 1, "d2": 1})

@@ -7,7 +7,7 @@ from tests.support.case import Case
 from tests.support.journaled import CALL, CALLED, CLOSE, DISCUSSION, ENDED, VOTES, Journaled, reports, vote_of
 from tests.support.program import DAY, T0, Ran
 from grdesk.journal.entry import Entries, line_of
-from grdesk.journal.timeline import Listing, running
+from grdesk.journal.timeline import Listing, running_votes
 
 LISTS = ["list"], ["list", "1"]
 
@@ -33,8 +33,8 @@ class Secrecy(JournalCase):
                 found, other = self.few.tool(*words), self.many.tool(*words)
                 expected = Ran(other.status, other.out.replace(b"many", b"few"), other.err)
                 self.assertEqual(found, expected)
-                told = "call 1 days=7\n      ok places 3", "close 1\n      refused 13"
-                reports(f"{words} of a running vote", found, 0, *told)
+                message = "call 1 days=7\n      ok places 3", "close 1\n      refused 13"
+                reports(f"{words} of a running vote", found, 0, *message)
                 is_silent(f"{words} of a running vote", found, "vote 1", "login=d4", "ok 6", *SECRETS)
 
     def test_a_ballot_that_was_replaced_before_it_was_sent_changes_no_list(self):
@@ -88,8 +88,8 @@ class Numbers(Case):
         call = "/resolutions/1/call", {"days": "7"}, "ok 1 places 2"
         vote = "/resolutions/1/vote", {"login": "d1", "ranks": "12", "token": "t"}, None
         other = "/developers", {"login": "d1", "name": "One", "status": "current"}, "ok 3"
-        self.assertEqual(running(entries_of([call, vote, other])), {"1"})
-        self.assertEqual(running(entries_of([call, vote, other, ("/resolutions/1/close", {}, "ok 4")])), set())
+        self.assertEqual(running_votes(entries_of([call, vote, other])), {"1"})
+        self.assertEqual(running_votes(entries_of([call, vote, other, ("/resolutions/1/close", {}, "ok 4")])), set())
 
 
 OF_AMENDMENT = """      ok 5
@@ -126,5 +126,5 @@ class Timelines(JournalCase):
         for words in ["x"], ["01"], ["--", "-1"], [""]:
             with self.subTest(words=words):
                 ran = self.desk.tool("list", *words)
-                told = f"the number of a resolution is like 1 or 12, and not {words[-1]!r}"
-                reports(f"list {words}", ran, 2, told)
+                message = f"the number of a resolution is like 1 or 12, and not {words[-1]!r}"
+                reports(f"list {words}", ran, 2, message)

@@ -78,8 +78,8 @@ class Replays(JournalCase):
         held, desk = self.voted.rows(), self.restored()
         line = ["journal", "replay", desk.journal, desk.file]
         ran = desk.run(*line, environment=failing(self.folder(), lines=1))
-        told = f"the replay is done, and {desk.file} has these acts, but {desk.journal} cannot be written: No space"
-        reports("a replay on a full disk", ran, 0, told, "entered the votes between\nok\n")
+        message = f"the replay is done, and {desk.file} has these acts, but {desk.journal} cannot be written: No space"
+        reports("a replay on a full disk", ran, 0, message, "entered the votes between\nok\n")
         same_rows("after a replay on a full disk", desk.file, held)
         reports("the next replay", desk.tool("replay"), 0, "so it is done", "nothing is missing in the desk")
 
@@ -87,8 +87,8 @@ class Replays(JournalCase):
         desk = self.restored()
         before = desk.file.read_bytes(), desk.lines()
         ran = desk.tool("replay", "--dry-run")
-        told = "would enter 6: 2026-01-15T00:00:00Z", "would enter the votes between"
-        reports("a replay that is tried", ran, 0, *told)
+        message = "would enter 6: 2026-01-15T00:00:00Z", "would enter the votes between"
+        reports("a replay that is tried", ran, 0, *message)
         is_silent("a replay that is tried", ran, *SECRETS)
         self.assertEqual((desk.file.read_bytes(), desk.lines()), before, "the desk and its journal")
 
@@ -98,16 +98,16 @@ class Replays(JournalCase):
         for words in WITHDRAW, ["--yes", *WITHDRAW], CALL[1]:
             with self.subTest(words=words):
                 ran = desk.act("--at", CALLED + DAY + 1, *words)
-                told = "nothing was sent: ", "gr-desk journal replay", "with --give-up"
-                reports("an act before the replay", ran, 1, *told)
+                message = "nothing was sent: ", "gr-desk journal replay", "with --give-up"
+                reports("an act before the replay", ran, 1, *message)
                 self.assertEqual((desk.file.read_bytes(), desk.lines()), before, "the desk and its journal")
 
     def test_the_acts_that_a_desk_lacks_are_given_up_by_give_up_alone(self):
         desk = self.copy_of(self.voted)
         put_back(desk, self.night)
         ran = desk.act("--at", CALLED + DAY + 1, "--give-up", *WITHDRAW)
-        told = f"{desk.file} lacks acts that {desk.journal} has, and they are given up"
-        reports("one that gives up", ran, 0, "ok 6", told)
+        message = f"{desk.file} lacks acts that {desk.journal} has, and they are given up"
+        reports("one that gives up", ran, 0, "ok 6", message)
         reports("the replay after it", desk.tool("replay"), 0, "nothing is missing in the desk")
         reports("the check after it", desk.tool("check"), 0, "ok")
 
@@ -138,8 +138,8 @@ class Refusals(ReplayCase):
         for vote, acts, kept in SHORTER:
             with self.subTest(vote=vote, kept=kept), self.shorter_journal(vote, acts, kept) as (desk, lacks):
                 ran = desk.tool("replay")
-                told = f"gr-desk journal: nothing was entered: {lacks}\n"
-                self.assertEqual((ran.status, ran.out, ran.err.decode()), (1, b"", told))
+                message = f"gr-desk journal: nothing was entered: {lacks}\n"
+                self.assertEqual((ran.status, ran.out, ran.err.decode()), (1, b"", message))
 
     def with_acts_by_another_way(self, acts):
         """A desk with these acts, two that came by another way, and one after them, in whose place the copy is."""
@@ -170,7 +170,7 @@ class Refusals(ReplayCase):
         self.assertEqual((desk.journal.read_bytes(), other.file.read_bytes()), kept, "the journal and the desk")
 
     def test_a_replay_stops_at_the_first_answer_that_differs(self):
-        for words, old, new, told in [
+        for words, old, new, message in [
             ("a vote", receipt(1, "d2", "tokenA02"), "0" * 64, "v2, a vote, is answered in another way than it was"),
             ("a call", str(ENDED), str(ENDED + 1), "6 (call 1 days=7) was answered `ok 6 places 3 until 1769040001`"),
         ]:
@@ -178,7 +178,7 @@ class Refusals(ReplayCase):
                 desk = self.made([*DISCUSSION, CALL, *VOTES])
                 put_back(desk, self.night)
                 desk.journal.write_bytes(desk.journal.read_bytes().replace(old.encode(), new.encode()))
-                ran = self.refuses(desk, 1, told)
+                ran = self.refuses(desk, 1, message)
                 is_silent("a replay that differs", ran, receipt(1, "d2", "tokenA02"), "tokenA02")
                 self.assertEqual(list(desk.file.parent.glob(".desk-*")), [], "what stands beside it")
 
@@ -190,8 +190,8 @@ class OtherDesks(ReplayCase):
         """A replay enters nothing into a desk, which is another one, and its journal stays. Gives what it reports."""
         before = file.read_bytes(), journaled.lines()
         ran = journaled.run("journal", "replay", journaled.journal, file)
-        told = f"nothing was entered: {file} is no copy of the desk of {journaled.journal}"
-        reports("a replay into another desk", ran, 1, told, *texts)
+        message = f"nothing was entered: {file} is no copy of the desk of {journaled.journal}"
+        reports("a replay into another desk", ran, 1, message, *texts)
         self.assertEqual((file.read_bytes(), journaled.lines()), before, "the desk and the journal")
         return ran
 
@@ -225,8 +225,8 @@ class OtherDesks(ReplayCase):
         for acts in [], VOTES[1:3]:
             other.accepts(acts)
             with self.subTest(acts=len(acts)):
-                told = "make other rows: ballot2 resolution 1: its ballots differ, and no more is said while it is in"
-                ran = self.refused(desk, other.file, told)
+                message = "make other rows: ballot2 resolution 1: its ballots differ, and no more is said while it is"
+                ran = self.refused(desk, other.file, message)
                 is_silent("a replay into another desk", ran, "login d", *SECRETS)
 
 
@@ -261,8 +261,9 @@ class FromCopies(ReplayCase):
         return ran
 
     def test_without_a_copy_nothing_is_entered_and_that_is_said(self):
-        told = "nothing was entered: acts that came by another way are missing in the journal, with the numbers 1 to 3"
-        reports("a replay", self.refuses(), 1, told, "--from COPY, an earlier copy of it that has them, shows it\n")
+        message = "nothing was entered: acts that came by another way are missing in the journal"
+        message = f"{message}, with the numbers 1 to 3"
+        reports("a replay", self.refuses(), 1, message, "--from COPY, an earlier copy of it that has them, shows it\n")
 
     def test_from_an_earlier_copy_the_acts_are_entered_and_compared(self):
         reports("a replay", self.restored.tool("replay", "--from", self.early), 0, "entered 3: ", "ok\n")
@@ -323,10 +324,10 @@ class Omissions(ReplayCase):
         reports("the list without 6", self.replayed.tool("list"), 0, "gone with the desk that had it")
         closed = self.copy_of(self.replayed)
         closed.accepts([(ENDED + 7 * DAY, ["close", "1"], "", "ok 8")])
-        told = closed.tool("list").out.decode()
-        numbers = re.findall("^ +(ok [0-9]+)", told, re.M)
+        message = closed.tool("list").out.decode()
+        numbers = re.findall("^ +(ok [0-9]+)", message, re.M)
         self.assertEqual(numbers, [f"ok {number}" for number in (1, 2, 3, 4, 5, 6, 8)])
-        self.assertIn(f"call 1 days=7\n      ok 6 places 3 until {ENDED + 7 * DAY}\n", told)
+        self.assertIn(f"call 1 days=7\n      ok 6 places 3 until {ENDED + 7 * DAY}\n", message)
 
     def test_a_replay_that_was_killed_before_it_was_in_the_journal_is_found_done(self):
         desk = self.copy_of(self.replayed)
@@ -385,8 +386,8 @@ class KilledReplays(ReplayCase):
         # The copy has not the place of the desk any more, where an earlier one was put back.
         desk.journal.write_bytes(b"".join(desk.lines()[:-3]))
         put_back(desk, self.night)
-        told = f"a replay was stopped: its copy is not in the place of {desk.file}, so nothing was entered\n"
-        reports("a replay of both", desk.tool("replay"), 0, told, "entered 6: ", "entered 7: ", "ok\n")
+        message = f"a replay was stopped: its copy is not in the place of {desk.file}, so nothing was entered\n"
+        reports("a replay of both", desk.tool("replay"), 0, message, "entered 6: ", "entered 7: ", "ok\n")
         reports("its check", desk.tool("check"), 0, "ok")
 
 
@@ -440,15 +441,15 @@ class PutBackAfterAReplay(ReplayCase):
 
     def test_while_the_desk_cannot_be_read_that_is_said_and_found_out_later(self):
         replayed = copy_desk(self.desk.file, self.folder() / "replayed.db")
-        told = f"a replay was stopped, and {self.desk.file} cannot be read to see whether it was done: "
+        message = f"a replay was stopped, and {self.desk.file} cannot be read to see whether it was done: "
         before = self.desk.lines()
         self.desk.file.write_bytes(b"no desk\n")
-        reports("a list of what is no desk", self.desk.tool("list"), 0, told)
-        reports("an act with what is no desk", self.desk.tool("drop", "1"), 3, f"nothing was done: {told}",
+        reports("a list of what is no desk", self.desk.tool("list"), 0, message)
+        reports("an act with what is no desk", self.desk.tool("drop", "1"), 3, f"nothing was done: {message}",
                 "; put a copy of that desk in its place, or move it away\n")
         self.desk.file.unlink()
-        reports("a list without a desk", self.desk.tool("list"), 0, f"{told}No such file or directory\n")
-        reports("an act without a desk", self.desk.tool("drop", "1"), 1, told)
+        reports("a list without a desk", self.desk.tool("list"), 0, f"{message}No such file or directory\n")
+        reports("an act without a desk", self.desk.tool("drop", "1"), 1, message)
         self.assertEqual(self.desk.lines(), before)
         put_back(self.desk, replayed)
         self.finds(self.DONE)
@@ -472,14 +473,14 @@ class OtherPlaces(ReplayCase):
         moved = Journaled(self.folder(), "moved")
         moved.journal = desk.journal
         copy_desk(self.night, moved.file)
-        told = "is the journal of the desk"
-        reports("an act at another place", moved.act("--at", ENDED, "close", "1"), 1, told)
+        message = "is the journal of the desk"
+        reports("an act at another place", moved.act("--at", ENDED, "close", "1"), 1, message)
         now = f"is the journal of {moved.file}, and no longer of {desk.file}"
         reports("its replay", moved.tool("replay"), 0, "ok", now)
         same_rows("at the new place", moved.file, desk.rows())
         developer = ["developer", "login=d5", "name=A", "status=current"]
         reports("an act there", moved.act("--at", ENDED, *developer), 0, "ok 12")
-        reports("an act at the old place", desk.act("--at", ENDED, "close", "1"), 1, told)
+        reports("an act at the old place", desk.act("--at", ENDED, "close", "1"), 1, message)
 
 
 class Ports(JournalCase):

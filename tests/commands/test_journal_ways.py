@@ -22,9 +22,9 @@ class Ways(OpenCase):
 
     def test_two_that_say_the_same_are_left_to_the_secretary(self):
         self.lost(VARY, VARY)
-        told = "nothing was entered: the journal has no answer to 4, 5, and nobody can tell which the desk has"
+        message = "nothing was entered: the journal has no answer to 4, 5, and nobody can tell which the desk has"
         settle = "run gr-desk journal settle N accepted, or settle N refused"
-        reports("a replay", self.leaves("replay"), 1, told, settle)
+        reports("a replay", self.leaves("replay"), 1, message, settle)
         reports("settle", self.desk.tool("settle", "5", "accepted", "--as", "4"), 0, "ok\n")
         self.assertEqual(self.fates(), [Fate.NOT_ACCEPTED, Fate.ACCEPTED, Fate.ACCEPTED])
         reports("a replay then", self.desk.tool("replay"), 0, "entered 6: ", "ok\n")

@@ -32,8 +32,8 @@ class PageJournal(Case):
                 self.assertEqual(list(self.entries(desk).all), ["1"])
 
     def test_that_of_another_desk_is_refused(self):
-        told = f"{self.journal} is the journal of the desk {os.path.realpath(self.desk)}, and not of {self.other}"
-        self.assertEqual(stopped(Refused, self.entries, self.other), told)
+        message = f"{self.journal} is the journal of the desk {os.path.realpath(self.desk)}, and not of {self.other}"
+        self.assertEqual(stopped(Refused, self.entries, self.other), message)
 
     def test_by_a_port_it_is_taken_as_it_is(self):
         self.assertEqual(list(self.entries(None).all), ["1"])

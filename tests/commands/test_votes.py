@@ -294,9 +294,9 @@ class Entered(Case):
         vote.came.mail("d1", mail_of(vote.came.filled("3-1"), 101, CALLED + DAY), CALLED)
         hold = "--desk", vote.desk.file, "--journal", vote.journal, "--at", ENDED - HOUR, "--hold", "2h"
         tool("act", *hold, "developer", "login=d99", "name=X", "status=current")
-        before = vote.kept()
+        before = vote.kept_options()
         vote.reports("a run with a held act", "nothing was sent: acts are on hold, 1, and would be lost")
-        self.assertEqual(vote.kept(), before)
+        self.assertEqual(vote.kept_options(), before)
         self.assertEqual(tool("journal", "drop", "--journal", vote.journal, "1").status, 0)
         vote.reports("a run after the held act was dropped", "1 vote of 1 entered")
 
@@ -337,17 +337,17 @@ class Entered(Case):
             form = f"login=x{number}&name=X&status=retired"
             once(vote.desk.file, CALLED + DAY, "/developers", form, f"ok {number + 1}")
         self.assertEqual(accepted_of(vote.desk.file), count)
-        before = vote.kept()
+        before = vote.kept_options()
         vote.reports("a run over a desk that was put back", "nothing was sent: ", " lacks the ballot of 7 voters that ",
                      "gr-desk journal check shows how the two differ")
-        self.assertEqual(vote.kept(), before)
+        self.assertEqual(vote.kept_options(), before)
 
     def test_nothing_is_sent_after_the_close(self):
         vote = self.vote.copied(self.folder())
         vote.desk.enter(ENDED, ("/resolutions/1/close", "", ""))
-        before = vote.kept()
+        before = vote.kept_options()
         vote.reports("a run after the close", "nothing was sent: resolution 1 is closed")
-        self.assertEqual(vote.kept(), before)
+        self.assertEqual(vote.kept_options(), before)
 
 
 class NotEntered(Case):
@@ -412,9 +412,9 @@ class NotEntered(Case):
         def enter():
             vote.desk.enter(CALLED + 2 * DAY, ("/developers", "login=late&name=L&status=retired", ""))
 
-        told = f"nothing was sent: {vote.desk.file} got acts after the table was made. Nothing is lost: run this "
-        told += "again"
-        self.answer_at_a_terminal(vote, b"y\n", told.encode(), meanwhile=enter)
+        message = f"nothing was sent: {vote.desk.file} got acts after the table was made. Nothing is lost: run this "
+        message += "again"
+        self.answer_at_a_terminal(vote, b"y\n", message.encode(), meanwhile=enter)
         self.assertEqual((len(vote.ballots()), list(vote.outbox.glob("*.eml"))), (0, []))
         self.assertEqual(copies_of(vote), [])
         vote.reports("the next run", "5 votes of 5 entered")
@@ -422,10 +422,10 @@ class NotEntered(Case):
     def test_a_host_that_received_none_of_the_mails_is_taken_for_misspelt(self):
         vote = self.vote.copied(self.folder())
         ran = vote.run("--received-by", "vote.exmaple.org")
-        told = "nothing was sent: no mail was received by vote.exmaple.org, but 1 mail by"
-        told = f"{told} {HOST} ({vote.came.place}/d5.eml)"
+        message = "nothing was sent: no mail was received by vote.exmaple.org, but 1 mail by"
+        message = f"{message} {HOST} ({vote.came.place}/d5.eml)"
         self.assertEqual(ran.out, b"")
-        says("a run with a host that is misspelt", ran, 1, f"{told}: name your own server by --received-by")
+        says("a run with a host that is misspelt", ran, 1, f"{message}: name your own server by --received-by")
         self.assertEqual((len(vote.ballots()), vote.outbox.exists(), vote.journal.read_bytes()), (0, False, b""))
 
     def test_the_hosts_that_most_mails_name_are_reported_and_move_nothing(self):

@@ -142,8 +142,8 @@ class StopsAtAPort(Case):
 
     def check_passing(self, name, *advice):
         ran, again = self.stopped(409, f"refused 2 {name}\n")
-        told = f"nothing more was sent: the desk refused the vote of d2 ({self.came.place}/d2.txt) for now. {name}: "
-        says("a run that is refused for now", ran, 1, told, "Nothing is lost; ", *advice,
+        message = f"nothing more was sent: the desk refused the vote of d2 ({self.came.place}/d2.txt) for now. {name}: "
+        says("a run that is refused for now", ran, 1, message, "Nothing is lost; ", *advice,
              "1 vote of 3 entered, 0 refused",
              "Without an answer: d2, The Name of 2: refused for now, and sent again by the next run"
              " d3, The Name of 3: to be sent", "1 mail written")
@@ -177,8 +177,8 @@ class StopsAtAPort(Case):
 
     def test_after_a_fault_nothing_more_is_sent(self):
         ran, again = self.stopped(503, "fault F2 Store\n")
-        told = f"the desk failed at the vote of d2 ({self.came.place}/d2.txt), by fault F2 Store; run this again. "
-        says("a run that meets a fault", ran, 3, f"{told}Nothing is lost", "1 vote of 3 entered",
+        message = f"the desk failed at the vote of d2 ({self.came.place}/d2.txt), by fault F2 Store; run this again. "
+        says("a run that meets a fault", ran, 3, f"{message}Nothing is lost", "1 vote of 3 entered",
              "Without an answer: d2")
         says("the next run", again, 0, "To be sent again, with the same token: 1 ballot", "2 votes of 2 entered")
         self.check_entered(times=1)

@@ -20,7 +20,8 @@ from tests.support.mailed import HOST, Folder, answers_in, mail_of
 from tests.support.program import TOP
 
 sys.path.insert(0, str(TOP / "tools"))
-from grdesk.ballots import answer, mail_head  # noqa: E402
+from grdesk import mail_head  # noqa: E402
+from grdesk.ballots import answer  # noqa: E402
 from grdesk.desk import copy  # noqa: E402
 from grdesk.stop import Refused  # noqa: E402
 
@@ -46,7 +47,7 @@ class Ran:
 
     def __init__(self, vote, at_question=None):
         votes = loaded("votes")
-        words = votes.reader().read(["--journal", str(vote.journal), *map(str, vote.words), str(vote.desk.file), "1",
+        words = votes.parser().read(["--journal", str(vote.journal), *map(str, vote.words), str(vote.desk.file), "1",
                                      str(vote.came.place)])
         copies = Counted(copy.copy_bytes, lambda source, target: (os.fspath(source), os.fspath(target)))
         programs = Counted(subprocess.Popen.__init__, lambda _, line, *more: line[1])
@@ -137,8 +138,8 @@ class Once(Case):
         def act():
             self.vote.desk.enter(CALLED + HOUR, ("/developers", "login=d9&name=Nine&status=current", ""))
 
-        told = stopped(Refused, lambda: Ran(self.vote, act))
-        self.assertIn("got acts after the table was made. Nothing is lost: run this again", told)
+        message = stopped(Refused, lambda: Ran(self.vote, act))
+        self.assertIn("got acts after the table was made. Nothing is lost: run this again", message)
         self.assertEqual(list(self.vote.work.glob("called.db-before-votes-*")), [])
         self.assertEqual((self.vote.journal.read_bytes(), answers_in(self.vote.outbox)), (b"", {}))
 

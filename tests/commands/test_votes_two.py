@@ -82,18 +82,18 @@ class TwoVotes(Case):
         on another one. The ballot that came too late is answered once more after the close, since it may have come
         after that."""
         receipts = {(number, login): digits for number, login, _, digits, _ in rows_of(self.desk.file)["ballot2"]}
-        told = {}
+        message = {}
         for login, mails in answers_in(self.outbox).items():
             for mail, text in mails:
                 number = int(re.fullmatch("Your ballot on resolution ([12])", mail["Subject"])[1])
                 self.assertTrue(text.startswith(f"Resolution {number}: {SUMMARIES[number]}\n"), text)
-                told.setdefault((number, login), []).append(" ".join(text.split()))
+                message.setdefault((number, login), []).append(" ".join(text.split()))
                 if (number, login) in receipts:
                     token = re.search("^Token: (.*)$", text, re.M)[1]
                     self.assertIn(f"Receipt: {receipts[number, login]}\n", text)
                     self.assertEqual(receipts[number, login], receipt(number, login, token))
-        self.assertEqual({at: len(texts) for at, texts in told.items()}, dict.fromkeys([*receipts, (2, "d5")], 1))
-        return {at: texts[0] for at, texts in told.items()}
+        self.assertEqual({at: len(texts) for at, texts in message.items()}, dict.fromkeys([*receipts, (2, "d5")], 1))
+        return {at: texts[0] for at, texts in message.items()}
 
     def check_whole(self):
         self.assertEqual(self.ballots(), COUNTED)

@@ -11,7 +11,7 @@ from tests.support.program import TOP
 PACKAGE = TOP / "tools" / "grdesk"
 # The rooms and the modules beside them, the lowest first.
 ORDER = [
-    *["stop", "inventory", "output", "dates", "interruption", "parser", "new_file", "regular_file", "mail_head"],
+    *["error", "inventory", "output", "dates", "interruption", "parser", "new_file", "regular_file", "mail_head"],
     *["desk", "acts", "journal", "ballots", "web", "package", "commands", "cli"],
 ]
 # Debian runs these, and asks for the mode.

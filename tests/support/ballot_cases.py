@@ -154,6 +154,19 @@ BEGIN_SIGNATURE = "-----BEGIN PGP SIGNATURE-----"
 NO_FORM = f'refused there is no ballot: a line "{BEGIN}" is missing'
 NO_END = f'refused a form has no end: the line "{END}" is missing'
 
+def keys(count, packets):
+    """Armour of keys that have so many packets each: a key, and names that are empty."""
+    content = base64.encodebytes(b"\x98\x01\x04" + b"\xcd\0" * (packets - 1)).decode()
+    begin, end = (f"-----{name} PGP PUBLIC KEY BLOCK-----\n" for name in ("BEGIN", "END"))
+    return f"{begin}\n{content}{end}" * count
+
+
+def attached_encoded(levels, size):
+    """A mail with lines of so many bytes, in quoted-printable, in one that is attached so in another one, and so on."""
+    field = b"Content-Type: message/rfc822\r\nContent-Transfer-Encoding: quoted-printable\r\n"
+    return HEAD + (field + b"\r\n") * levels + b"\r\n" + b"x" * size
+
+
 # What stands under each row of the page: files of this content, each of which gives the line of the row.
 CASES = {
     "the form alone, after U+FEFF or not, in a text, a mail, an mbox or a Maildir": [
@@ -215,6 +228,9 @@ CASES = {
     "one with a line before it that is not of its head": [spoilt("Hash: SHA512", "Comment: x")],
     "one with a hyphen that has no other before it": [
         spoilt("+++++ ballot ends", "-- \n+++++ ballot ends"), spoilt("Identifier", "-Identifier")],
+    "one with a line of more than 10,000 bytes, which gpg may pass over": [
+        spoilt("Hash: SHA512\n", f"Hash: SHA512\n{' ' * 10_001}\n"), signed("x" * 10_001 + f"\n{FILLED}"),
+        mail(signed().replace("SHA512", "SHA512" + "=20" * 3_400), "Content-Transfer-Encoding: quoted-printable")],
     "one whose signature has a text in it": [spoilt("\niAEE\n", "\nkA0DAAgBqqqqqqqqqqoBrBJiAGlvbGQgcG9zdAo=\n")],
     "a `multipart/signed` that has not a text and its signature alone": [
         parts("signed", plain()), parts("signed", plain(), plain(), SIGNATURE), parts("signed", SIGNATURE, plain())],
@@ -246,6 +262,9 @@ CASES = {
     "parts in one another, a thousand deep": [nested(1_000)],
     "more than 500 parts": [parts("mixed", *(plain("x") for _ in range(501)))],
     "more than 10,000,000 bytes": [mail(FILLED + "x" * 10_000_000)],
+    "attached mails of more than 30,000,000 bytes, one encoded in another": [attached_encoded(4, 7_600_000)],
+    "OpenPGP keys of tens of thousands of packets": [
+        FILLED + keys(5, 4_200), parts("mixed", plain(), MIMEApplication(keys(5, 4_200).encode(), "pgp-keys"))],
     "a second form with all boxes empty": [FILLED + quoted(EMPTY), EMPTY + FILLED, quoted(EMPTY + EMPTY) + FILLED],
     "a second form that is filled in": [FILLED + FILLED, FILLED + form(" 1 ", "   ", "   "), FILLED + quoted(FILLED)],
     "all boxes empty": [EMPTY, quoted(EMPTY), EMPTY + EMPTY, form("", " ", "\t", token="tokenA01")],

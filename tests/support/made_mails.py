@@ -24,12 +24,12 @@ from tests.support.made_boxes import box_differences
 from tests.support.made_heads import HOST, Head, made_head
 from tests.support.made_parts import Attached, Inventory, Leaf, Verdict, head_bytes, judged, rendered
 from tests.support.made_texts import (
-    ENCRYPTED, PIECES, Luck, Reason, Text, beside, joined, made_form, made_text, post, signed_well, with_armour_of_gpg,
-    with_odd_armour)
+    ENCRYPTED, PIECES, UNCLEAR, Luck, Reason, Text, beside, joined, made_form, made_text, post, signed_well,
+    with_armour_of_gpg, with_odd_armour)
 from tests.support.made_trees import Maker, tree_of
 
 from grdesk.ballots import mail as mails
-from grdesk.ballots.form_reader import read
+from grdesk.ballots.form_reader import read_form
 from grdesk.stop import NotRead
 
 # How long a mail may take, in seconds of this process.
@@ -94,6 +94,9 @@ def made_text_file(luck, form):
         # Before armour it makes a difference for gpg, so a line stands there.
         content = b"\xef\xbb\xbf" + (eol.encode() if text.is_armoured else b"") + content
     verdict = judged(Inventory(Leaf(text, type="text/plain")))
+    if content[:1] >= b"\x80" and b"\0" in content:
+        # It may be taken for packets.
+        verdict = verdict._replace(may=verdict.may | UNCLEAR)
     return content, Head(), verdict, True, text.all_ballots()
 
 
@@ -236,7 +239,7 @@ def outcome(mail, form):
     """The ranks, the token and whether they are signed, or the sentence of the refusal."""
     try:
         written = mail.written()
-        filled = read(form, written.text)
+        filled = read_form(form, written.text)
     except NotRead as why:
         return str(why)
     return filled.ranks, filled.token, written.is_signed

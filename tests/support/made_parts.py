@@ -33,6 +33,7 @@ TYPES = ("application/octet-stream", "application/pdf", "image/png", "text/x-dif
 # Of more bytes each is not looked at for itself.
 LARGE = 50_000
 ARMOUR_LINE = re.compile(rb"^-----(?:BEGIN|END) PGP (?:SIGNED MESSAGE|SIGNATURE)-----[ \t\r]*$", re.M)
+SIGNATURES = re.compile(rb"^-----BEGIN PGP SIGNATURE-----[ \t]*$.*?^-----END PGP SIGNATURE-----[ \t]*$", re.M | re.S)
 
 
 @dataclass
@@ -205,14 +206,14 @@ def text_leaf(luck, text, eol, kind="text/plain", is_odd=False):
     whole = whole_of(luck, text)
     name, codec = charset_of(luck, text, whole)
     content = whole.encode(codec)
-    first = text.lines[0] if text.lines else ""
+    first, mark = text.lines[0] if text.lines else "", b""
     if codec == "utf-8" and luck.chance(0.04) and not first.startswith("-----BEGIN"):
         luck.kinds.add("U+FEFF before a text")
-        content = b"\xef\xbb\xbf" + content
+        mark = b"\xef\xbb\xbf"
     elif codec == "utf-8" and luck.chance(0.04) and first.startswith(SIGNED) and text.pieces and kind == "text/plain":
         # Armour begins in the first column, and so its first line is none here.
         luck.kinds.add("U+FEFF before armour")
-        content = b"\xef\xbb\xbf" + content
+        mark = b"\xef\xbb\xbf"
         text.faults |= UNCLEAR
     leaf = Leaf(text, type=kind)
     more = list(luck.choice([[], [], ["format=flowed"], ["format=flowed", "delsp=yes"], ['x-note="a; b"']]))
@@ -227,9 +228,9 @@ def text_leaf(luck, text, eol, kind="text/plain", is_odd=False):
         parameters = [f'charset="{luck.choice(OTHER_CHARSETS)}"']
         luck.kinds.add("a charset that is not read")
         leaf.faults |= {Reason.CHARSET, Reason.UNREADABLE}
+    content = mark + content
     line, leaf.body, leaf.is_identity = transferred(luck, content, eol)
-    if 0 < len(ARMOUR_LINE.findall(leaf.body)) < len(ARMOUR_LINE.findall(content)):
-        # Of its armour the file shows some lines, and others have encoded letters, as no program writes them.
+    if not leaf.is_identity and shows_other_armour(leaf.body, content):
         leaf.may |= UNCLEAR
     if b"PGP PUBLIC KEY" in content and any("quoted" in each.lower() for each in line):
         # Letters of the key are encoded, as no program writes them, and gpg finds none in the file.
@@ -243,6 +244,15 @@ def text_leaf(luck, text, eol, kind="text/plain", is_odd=False):
         more = ["inline", 'attachment; filename="b.txt"', 'attachment; filename="b.asc"']
         leaf.lines.append(f"Content-Disposition: {luck.choice(more)}")
     return leaf
+
+
+def shows_other_armour(body, content):
+    """Whether the file shows armour of a text, and not all of it as it is once the text is decoded: letters of a line or
+    of a signature are encoded, as no program writes them, or a line is broken before what is no armour of the text."""
+    shown = ARMOUR_LINE.findall(body)
+    if len(shown) != len(ARMOUR_LINE.findall(content)):
+        return bool(shown)
+    return SIGNATURES.findall(body.replace(b"\r", b"").replace(b"=3D", b"=")) != SIGNATURES.findall(content)
 
 
 def quoted_or_not(luck, name):
@@ -320,6 +330,8 @@ def boundary_of(luck, *others):
     if others and luck.chance(0.2):
         luck.kinds.add("a boundary that begins as another")
         made = others[0] + luck.word(1, 3)
+    while made in others:
+        made += luck.word(1, 3)
     return made
 
 

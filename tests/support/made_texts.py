@@ -563,11 +563,26 @@ PIECES = {
 
 
 def not_signed(luck, text, odd, is_before=False):
-    """What looks clear-signed, and is not for gpg: each line of its armour has an odd blank at its end or before it."""
+    """What looks clear-signed, and is not for gpg: each line of its armour has an odd blank at its end or before it. So
+    the hyphens before others in it remain, also in a form."""
     head, lines, signature = armour_parts(luck, text)
     for part, place in (head, 0), (signature, 0), (signature, -1):
         part[place] = odd + part[place] if is_before else part[place] + odd
-    return joined(Text(head), Text(lines, text.ballots, names_marker=text.names_marker), Text(signature))
+    ballots = text.ballots
+    if has_hyphen_in_form(text.lines):
+        ballots = [each._replace(faults=each.faults | {Reason.OPTION}) for each in ballots]
+    return joined(Text(head), Text(lines, ballots, names_marker=text.names_marker), Text(signature))
+
+
+def has_hyphen_in_form(lines):
+    """Whether a line within a form begins with a hyphen: the rest of a summary that was wrapped."""
+    is_within = False
+    for line in lines:
+        bare = line.strip("> \t")
+        is_within = bare == BEGIN or is_within and bare != END
+        if is_within and line.startswith("-"):
+            return True
+    return False
 
 
 def with_odd_armour(luck, text):

@@ -246,7 +246,7 @@ def addresses_in(text):
     try:
         pieces = marks(text)
     except ValueError:
-        return [each.lower() for each in re.findall(r'[^ \t<>(),;:"]+@[^ \t<>(),;:"]+', text)]
+        return [each.lower() for each in re.split(r'[ \t<>(),;:"]+', text) if "@" in each[1:-1]]
     found = [("", False)]
     for begin, piece in pieces:
         said, is_whole = found[-1]

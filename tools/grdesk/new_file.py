@@ -157,15 +157,15 @@ def make_folder(path, readers):
         os.fchmod(made.descriptor, readers.of_folder)
 
 
-def check_unshared(folder, told, why):
-    """Refuses a folder that is another account's, or into which others can write. What is told begins and ends with
-    these words."""
+def check_unshared(folder, outcome, why):
+    """Refuses a folder that is another account's, or into which others can write. The message begins with
+    `outcome` and ends with `why`."""
     about = folder.about()
     if not is_trusted(about):
-        raise Refused(f"{told}: {folder.path} belongs to another account, {why}: name a folder of your own")
+        raise Refused(f"{outcome}: {folder.path} belongs to another account, {why}: name a folder of your own")
     if about.st_mode & WRITTEN_BY_OTHERS:
         what_to_do = f"chmod go-w {shlex.quote(folder.path)}"
-        raise Refused(f"{told}: other accounts can write into {folder.path}, {why}: {what_to_do}")
+        raise Refused(f"{outcome}: other accounts can write into {folder.path}, {why}: {what_to_do}")
 
 
 def check_shared(folder):

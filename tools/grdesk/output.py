@@ -27,7 +27,7 @@ def say_line(text):
     say(f"{text}\n".encode(errors="backslashreplace"))
 
 
-# The command that runs, once the first word has told it.
+# The command that runs, once the first word was read.
 running = []
 
 

@@ -123,20 +123,20 @@ class PassingRefusals(TestCase):
         for name in self.PASSING:
             with self.subTest(name=name):
                 [ballot] = self.refused(name, mail_came("d1", "123", 5)).ballots
-                self.assertEqual((ballot.case, ballot.token), (Standing.TO_SEND, "tokenA01"))
+                self.assertEqual((ballot.standing, ballot.token), (Standing.TO_SEND, "tokenA01"))
 
     def test_a_final_one_is_not_sent_again(self):
         for name in self.FINAL:
             with self.subTest(name=name):
                 [ballot] = self.refused(name, mail_came("d1", "123", 5)).ballots
-                self.assertEqual((ballot.case, ballot.why), (Standing.REFUSED, f"refused 7 {name}\n"))
+                self.assertEqual((ballot.standing, ballot.why), (Standing.REFUSED, f"refused 7 {name}\n"))
 
     def test_that_the_time_was_over_is_final_for_what_came_at_the_end_alone(self):
         hours = (ENDED - CALLED) / HOUR
         for at, case in (hours - 1 / HOUR, Standing.TO_SEND), (hours, Standing.REFUSED):
             with self.subTest(at=at):
                 [ballot] = self.refused("Ended", mail_came("d1", "123", at)).ballots
-                self.assertEqual(ballot.case, case)
+                self.assertEqual(ballot.standing, case)
 
     def test_what_is_no_refusal_of_a_desk_is_passing(self):
         journal, came = Journaled(), mail_came("d1", "123", 5)
@@ -168,7 +168,7 @@ class SentAgain(TestCase):
     def again(self, ranks, token, case, others=(), **more):
         again = mail_came("d1", ranks, 3, token, **more)
         batch = judged([*others, again], self.journal)
-        self.assertEqual(next(each.case for each in batch.ballots if each.arrival is again), case)
+        self.assertEqual(next(each.standing for each in batch.ballots if each.arrival is again), case)
         return batch, again
 
     def test_the_ranks_of_an_earlier_one_without_a_token_are_undecided(self):
@@ -241,8 +241,8 @@ class ReplacedBeforeTheyWereSent(TestCase):
             with self.subTest(ranks=ranks, token=token):
                 again = mail_came("d1", ranks, 3, token, number=7)
                 batch = stands(self, [again], [Standing.UNDECIDED], self.journal)
-                told = f"the {what} of the ballot that arrived 2026-01-15T01:00:00Z, before the last one"
-                self.assertIn(told, why_of(batch, again))
+                message = f"the {what} of the ballot that arrived 2026-01-15T01:00:00Z, before the last one"
+                self.assertIn(message, why_of(batch, again))
 
     def test_a_form_without_a_token_is_known_by_its_ranks(self):
         journal = Journaled()
@@ -380,7 +380,7 @@ class OtherTexts(TestCase):
 
     def test_a_mail_that_came_twice_is_one_ballot(self):
         batch = judged([mail_came("d1", "123", hours, number=8) for hours in (2, 1)])
-        self.assertEqual([(each.case, each.moment) for each in batch.ballots], [(Standing.TO_SEND, CALLED + HOUR)])
+        self.assertEqual([(each.standing, each.moment) for each in batch.ballots], [(Standing.TO_SEND, CALLED + HOUR)])
 
 
 class TwoLogins(TestCase):

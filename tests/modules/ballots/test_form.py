@@ -92,7 +92,7 @@ class OfStatuses(Case):
 
     def test_before_the_call_there_is_none(self):
         stages = {"Draft": "is a draft", "Discussing": "is under discussion", "Cancelled": "is cancelled"}
-        for stage, told in stages.items():
+        for stage, message in stages.items():
             with self.subTest(stage=stage):
                 self.assertEqual(stopped(Refused, form_of, status(stage, number=12)),
-                                 f"resolution 12 {told}, and has no ballot before it is called")
+                                 f"resolution 12 {message}, and has no ballot before it is called")

@@ -11,7 +11,7 @@ from tests.support.program import TOP
 
 sys.path.insert(0, str(TOP / "tools"))
 from grdesk.ballots.arrival import arrival_of  # noqa: E402
-from grdesk.ballots.form_reader import OfAnotherVote, read  # noqa: E402
+from grdesk.ballots.form_reader import OfAnotherVote, read_form  # noqa: E402
 from grdesk.ballots.mail import Mail  # noqa: E402
 from grdesk.desk.sheet import Developer  # noqa: E402
 from grdesk.stop import NotRead  # noqa: E402
@@ -50,7 +50,7 @@ TEXTS = {
 
 def read_for(form, text, *others):
     try:
-        return read(form, text, others).ranks
+        return read_form(form, text, others).ranks
     except OfAnotherVote as other:
         return other.form.number
     except NotRead as why:

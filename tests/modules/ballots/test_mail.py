@@ -1,19 +1,21 @@
 """What is known of a mail: whether it is one, when it arrived, from whom it is, by what it is known, and which charset
 it is in. Whatever a stranger wrote into it, that mail alone is not read, and soon."""
+import base64
 import binascii
 import random
+import re
 import sys
 import time
 from email.mime.application import MIMEApplication
 from unittest import mock
 
 from tests.modules.ballots.reading_case import FORM, ReadingCase, line_of, mail_of
-from tests.support.ballot_cases import FILLED, LONG, changed, mail, parts, plain
+from tests.support.ballot_cases import FILLED, LONG, attached_encoded, changed, keys, mail, parts, plain
 from tests.support.called import CALLED
 from tests.support.program import TOP
 
 sys.path.insert(0, str(TOP / "tools"))
-from grdesk.ballots.form_reader import read  # noqa: E402
+from grdesk.ballots.form_reader import read_form  # noqa: E402
 from grdesk.mail_head import ALIASES  # noqa: E402
 from grdesk.stop import NotRead  # noqa: E402
 
@@ -205,6 +207,40 @@ def asked_all(came):
     return [came.received(HOST), came.date(), came.source(), came.key(), came.senders(), came.sender_text()]
 
 
+def time_of(work):
+    began = time.process_time()
+    work()
+    return time.process_time() - began
+
+
+# No mail takes more steps, in millions, each of which changes a byte of a text.
+MOST_STEPS = 6
+
+
+def large_mails():
+    """Mails that are about as large as may be, of which each byte or each few bytes once cost a step or more."""
+    size = 9_990_000
+    key, end = "-----BEGIN PGP PUBLIC KEY BLOCK-----\n\n", "-----END PGP PUBLIC KEY BLOCK-----\n"
+    signed, signature = "-----BEGIN PGP SIGNED MESSAGE-----\n\n", "-----BEGIN PGP SIGNATURE-----\n"
+    in_base64, in_quoted = (f"Content-Transfer-Encoding: {each}" for each in ("base64", "quoted-printable"))
+    in_parts = mail("", 'Content-Type: multipart/signed; boundary="b"') + b"--b\n\nx\n--b\n"
+    many_keys = keys(99, 4_999).encode()
+    return {
+        "keys": mail(many_keys * 7),
+        "keys in base64": mail(base64.encodebytes(many_keys * 5), in_base64),
+        "a key that is too large": mail(keys(1, size // 3)),
+        "a key of empty lines": mail(key + "\n" * size + "?\n" + end),
+        "signed lines that are empty": mail(signed + "\n" * size + signature + "\n-----END PGP SIGNATURE-----\n"),
+        "armour lines in a signature": in_parts + f"Content-Type: application/pgp-signature\n{in_quoted}\n\n".encode()
+        + b"x\n" * (size // 2 - 2_000) + signature.encode() * 101 + b"--b--\n",
+        "padding in base64": mail("Q=" * (size // 2), in_base64),
+        "lines in base64": mail("\n" * size + "!", in_base64),
+        "marks in base64": mail("!" * size, in_base64),
+        "attached mails": attached_encoded(29, size - 3_000),
+        "senders": mail("", *['From: "' + "x" * 9_990] * 10),
+    }
+
+
 class Hostile(ReadingCase):
     """Mails that are to take long, or to make something fail."""
 
@@ -245,6 +281,13 @@ class Hostile(ReadingCase):
         for name, content in mails.items():
             self.ends_soon(name, content)
 
+    def test_a_mail_of_ten_megabytes_takes_no_longer_than_some_million_small_steps(self):
+        steps = time_of(lambda: re.sub(b"x", b"", b"x" * 1_000_000))
+        for name, content in large_mails().items():
+            with self.subTest(mail=name):
+                took = time_of(lambda: [line_of(content), *asked_all(mail_of(content))])
+                self.assertLess(took, MOST_STEPS * steps, f"it takes as long as {took / steps:.1f} million small steps")
+
     def test_what_is_too_large_or_too_deep_is_refused_by_name(self):
         self.assertEqual(line_of(b"x" * 10_000_001), "refused the mail has more than 10,000,000 bytes; send only the form")
         self.assertEqual(line_of(mail(FILLED + "x" * (9_999_000 - len(FILLED)))), "ok 21- unsigned")
@@ -276,7 +319,7 @@ class Hostile(ReadingCase):
                 came = mail_of(bytes(content))
                 asked_all(came)
                 try:
-                    filled = read(FORM, came.written().text)
+                    filled = read_form(FORM, came.written().text)
                 except NotRead as why:
                     self.assertNotIn("cannot be read as a mail", str(why))
                 else:

@@ -13,7 +13,10 @@ from pathlib import Path
 from tests.support.case import Case
 from tests.support.made_boxes import box_differences
 from tests.support.made_mails import differences, made, mails_in, outcome
-from tests.support.made_texts import GPG_ALONE, SIGNATURE, SIGNATURE_END, SIGNED, Luck, made_form, made_text, post
+from tests.support.made_parts import boundary_of, shows_other_armour, text_leaf
+from tests.support.made_texts import (
+    BEGIN, END, GPG_ALONE, SIGNATURE, SIGNATURE_END, SIGNED, UNCLEAR, Ballot, Luck, Reason, Text, made_form, made_text,
+    not_signed, post)
 
 SEEDS = range(1, 2_001)
 BOXES = range(1, 201)
@@ -49,6 +52,45 @@ class MadeMails(Case):
 
     def test_a_seed_gives_one_mail(self):
         self.assertEqual([made(seed) for seed in range(1, 30)], [made(seed) for seed in range(1, 30)])
+
+
+class Truths(Case):
+    """What is known of a mail is true, also of what few seeds make."""
+
+    def test_a_file_may_show_other_armour_than_a_text_in_quoted_printable_has(self):
+        whole = f"{SIGNED}\n\nx\n{SIGNATURE}\n\niHUE\n=abcd\n{SIGNATURE_END}\n".encode()
+        encoded = whole.replace(b"\n=abcd", b"\n=3Dabcd")
+        for body in encoded, encoded.replace(b"\n", b"\r\n"), encoded.replace(b"-----", b"=2D----"):
+            with self.subTest(body=body):
+                self.assertFalse(shows_other_armour(body, whole))
+        for change in (b"BEGIN PGP SIGNED", b"=42EGIN PGP SIGNED"), (b"iHUE", b"=69HUE"), (b"iHUE", b"iH=\nUE"):
+            with self.subTest(change=change):
+                self.assertTrue(shows_other_armour(encoded.replace(*change), whole))
+        self.assertTrue(shows_other_armour(b"x=\n" + SIGNATURE.encode() + b"\n", b"x" + SIGNATURE.encode() + b"\n"))
+
+    def test_a_hyphen_in_a_form_that_is_not_unescaped_changes_its_option(self):
+        for line, faults in ("- Red", {Reason.OPTION}), ("Red", set()):
+            text = Text(["- me", BEGIN, "[ 1 ] Choice 1:", line, END, "- x"], [Ballot("1", None)])
+            with self.subTest(line=line):
+                self.assertEqual(not_signed(Luck(1), text, "\u00a0").ballots, [Ballot("1", None, faults=faults)])
+
+    def test_a_mark_before_armour_remains_whatever_the_charset_is_said_to_be(self):
+        marked = 0
+        for seed in range(2_000):
+            text = Text([SIGNED, "", "x", SIGNATURE, SIGNATURE_END], pieces=[Text(["x"])])
+            leaf = text_leaf(Luck(seed), text, b"\n", is_odd=True)
+            if text.faults:
+                marked += 1
+                self.assertEqual(text.faults, UNCLEAR)
+                self.assertTrue(leaf.body.startswith((b"\xef\xbb\xbf", b"=EF", b"77u/")), leaf.body)
+        self.assertGreaterEqual(marked, 10)
+
+    def test_no_two_boundaries_of_a_mail_are_one(self):
+        for seed in range(200):
+            luck, found = Luck(seed), ["b"]
+            while len(found) < 40:
+                found.append(boundary_of(luck, *found))
+            self.assertEqual(len(set(found)), len(found))
 
 
 @cache

@@ -126,7 +126,7 @@ class FullDisks(Case):
         self.assertEqual(named, f"{self.place}/{WRITTEN}")
         self.assertFalse(self.box.has(digests[50]))
         self.box.keep(digests[:2])
-        self.assertEqual(Outbox(str(self.place)).known, {"0" * 64, *digests[:2]})
+        self.assertEqual(Outbox(str(self.place)).digests, {"0" * 64, *digests[:2]})
 
 
 class Places(Case):

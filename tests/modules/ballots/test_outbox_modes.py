@@ -57,8 +57,8 @@ class Modes(Case):
                 place = self.folder() / "outbox"
                 place.mkdir()
                 place.chmod(mode)
-                told = f"nothing was done: other accounts may enter {place}, which shows who voted how: chmod 700 it"
-                self.assertEqual(stopped(Refused, Outbox, str(place)), told)
+                message = f"nothing was done: other accounts may enter {place}, which shows who voted how: chmod 700 it"
+                self.assertEqual(stopped(Refused, Outbox, str(place)), message)
                 self.assertEqual(list(place.iterdir()), [])
 
     def test_a_folder_of_its_owner_alone_is_taken_if_it_is_empty(self):
@@ -69,8 +69,8 @@ class Modes(Case):
         other = self.folder() / "other"
         other.mkdir(mode=0o700)
         (other / "letter").write_text("")
-        told = f"nothing was done: {other} is not empty, and is not an outbox: name a new folder"
-        self.assertEqual(stopped(Refused, Outbox, str(other)), told)
+        message = f"nothing was done: {other} is not empty, and is not an outbox: name a new folder"
+        self.assertEqual(stopped(Refused, Outbox, str(other)), message)
 
     def test_an_outbox_whose_list_of_mails_is_no_file_is_refused_and_not_waited_for(self):
         before = signal.signal(signal.SIGALRM, lambda *_: self.fail("it waits"))
@@ -80,8 +80,8 @@ class Modes(Case):
         place = self.folder() / "outbox"
         place.mkdir(mode=0o700)
         os.mkfifo(place / ".written")
-        told = f"{place} cannot be used as an outbox: {place}/.written is no file; remove it"
-        self.assertEqual(stopped(Failed, Outbox, str(place)), told)
+        message = f"{place} cannot be used as an outbox: {place}/.written is no file; remove it"
+        self.assertEqual(stopped(Failed, Outbox, str(place)), message)
 
 
 class Once(Case):

@@ -21,6 +21,7 @@ from tests.support.ballot_cases import (
     encoded,
     forged,
     html,
+    keys,
     mail,
     parts,
     plain,
@@ -30,12 +31,13 @@ from tests.support.ballot_cases import (
 )
 from tests.support.case import Case
 
-from grdesk.ballots.armour import Armour, armour_in  # noqa: E402
+from grdesk.ballots.armour import Armour, ArmourReader  # noqa: E402
 
 OUTSIDE = "refused the form stands outside what is signed; send only the form, signed or not"
 MORE_THAN_ONE = "refused more than one text in the mail is signed; send only the signed form"
 BESIDE = "refused the mail has something signed besides the text that would be read; send only the form"
 NO_SIGNATURE_IN_IT = "refused the signed text has something else in the place of its signature"
+TOO_MANY_KEYS = "refused the mail has too many OpenPGP keys, or one that is too large; send only the form"
 PACKETS = "refused the text begins as a signed message without armour does; send the form as plain text"
 # Texts that a voter may sign, as the bytes before they are signed. gpg takes no blanks at the end of a line for signed.
 TEXTS = {
@@ -128,6 +130,19 @@ class Texts(ReadingCase):
         content = mail("x=\rhidden\ny", "Content-Transfer-Encoding: quoted-printable")
         self.assertEqual(mail_of(content).written().text, "x=\rhidden\ny")
 
+    def test_an_armour_line_that_only_the_file_shows_is_not_passed_over(self):
+        content = mail(f"x=\n-----BEGIN PGP SIGNATURE-----\n{FILLED}", "Content-Transfer-Encoding: quoted-printable")
+        self.assertEqual(line_of(content), OUTSIDE)
+
+    def test_a_mail_has_keys_of_as_many_packets_as_voters_have_and_no_more(self):
+        encoded_field = "Content-Transfer-Encoding: quoted-printable"
+        for field, mark in ("X-Note: as it is", "="), (encoded_field, "=3D"):
+            some, many, large = (keys(*each).replace("=", mark) for each in ((2, 4_999), (5, 4_999), (1, 5_000)))
+            with self.subTest(field=field):
+                self.assertEqual(line_of(mail(FILLED + some, field)), "ok 21- unsigned")
+                self.assertEqual(line_of(mail(FILLED + many, field)), TOO_MANY_KEYS)
+                self.assertTrue(line_of(mail(FILLED + large, field)).startswith("refused "))
+
     def test_a_key_beside_a_form_is_no_signed_text(self):
         key = MIMEApplication(KEY, "pgp-keys", _encoder=as_it_is)
         self.is_read_as("ok 21- unsigned", beside=parts("mixed", plain(), key), in_the_text=FILLED + KEY.decode())
@@ -176,6 +191,10 @@ def in_quoted_printable(content):
     """As Thunderbird does: no line has more than 73 characters before its soft end."""
     lines = content.replace(b"=", b"=3D").split(b"\n")
     return b"\n".join(re.sub(rb"(.{73})(?=[^\r])", rb"\1=\n", line) for line in lines)
+
+
+def armour_in(content):
+    return ArmourReader().lines(content)
 
 
 def renamed(armour, name):
@@ -229,8 +248,8 @@ class Gpg(ReadingCase):
         return cls.ran("gpg", "--batch", "--pinentry-mode", "loopback", *words, given=given)
 
     @classmethod
-    def clear_signed(cls, text):
-        made = cls.gpg("--clearsign", given=text)
+    def clear_signed(cls, text, *words):
+        made = cls.gpg("--clearsign", *words, given=text)
         if made.returncode:
             raise AssertionError(f"nothing was signed: {made.stderr}")
         return made.stdout
@@ -293,6 +312,30 @@ class Gpg(ReadingCase):
             "empty lines": below_a_form(b"\n" * 10_001 + message),
             "blanks": below_a_form(b"\n" + (b" " * 70 + b"\n") * 10_000 + message),
         })
+        self.assertEqual(line_of(below_a_form(b" " * 9_000 + b"\nmAYEAAAAABY=\n")), "ok 21- unsigned")
+        for head in b" " * 20_001, b"Version: " + b"1" * 20_001 + b"\n":
+            with self.subTest(head=head[:20]):
+                line = line_of(below_a_form(head + b"\nmAYEAAAAABY=\n"))
+                self.assertTrue(line.startswith("refused "), line)
+
+    def test_a_form_in_lines_that_gpg_passes_over_in_the_head_of_a_signed_text_is_refused(self):
+        def with_form(post, blank):
+            """A post with a form in its head, of which each line is longer than gpg reads."""
+            lines = [line + blank for line in ("", *FILLED.splitlines())]
+            return post.replace(b"\n\n", "\n".join(["", *lines, "", ""]).encode(), 1)
+
+        self.are_refused({"text": with_form(self.post, " " * 20_001), "mail": mail(with_form(self.post, " " * 20_001))})
+        # In quoted-printable the lines are as long in the file, and a third of that once they are decoded.
+        shortened = with_form(self.post_as_in_quoted_printable(), "=20" * 6_700)
+        self.are_refused({"quoted-printable": mail(shortened, "Content-Transfer-Encoding: quoted-printable")})
+
+    def post_as_in_quoted_printable(self):
+        """The post, of which the armour has one = that stands before no byte in quoted-printable."""
+        for more in range(60):
+            made = self.clear_signed(b"I prefer tea.\n", "--sig-notation", f"x@example.org={'x' * more}")
+            if re.search(rb"[^=]\n=(?![0-9A-Fa-f]{2})", made):
+                return made
+        raise AssertionError("each signature has a padding, or a checksum that is a byte in quoted-printable")
 
     def test_a_block_with_a_signed_message_behind_a_packet_of_a_key_is_refused(self):
         message, key = self.message("--compress-algo", "none"), self.gpg("--export").stdout
@@ -378,7 +421,9 @@ class Gpg(ReadingCase):
 
     def test_a_text_that_begins_with_a_letter_beyond_ascii_is_read(self):
         self.is_read_as("ok 21- unsigned", umlaut=f"Ä\n{FILLED}", mark=f"\ufeff{FILLED}", cyrillic=f"Да\n{FILLED}",
-                        japanese=f"票\n{FILLED}")
+                        japanese=f"票\n{FILLED}", control=f"Да\x0c\x1b\x07\n{FILLED}", ascii=f"x\0\1\3\n{FILLED}")
+        # Compressed, a message may be UTF-8. What then begins a packet is the version of a signature, or a method.
+        self.is_read_as(PACKETS, **{f"U+000{code}": f"Да{chr(code)}\n{FILLED}" for code in range(7)})
 
     def inline(self, name):
         """The post as a message with its signature, in armour that calls it something else."""

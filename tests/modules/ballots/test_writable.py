@@ -62,8 +62,8 @@ class Writable(Case):
         found = mock.patch.object(writable, "writable_by_all", lambda _: places)
         with found, mock.patch.object(writable, "note") as said:
             writable.warn_of_writable("came")
-        told = "came/d1.eml, came/d2.eml, came/d3.eml, came/d4.eml, came/d5.eml and 3 other places. A ballot there"
-        self.assertIn(told, said.call_args[0][0])
+        message = "came/d1.eml, came/d2.eml, came/d3.eml, came/d4.eml, came/d5.eml and 3 other places. A ballot there"
+        self.assertIn(message, said.call_args[0][0])
 
 
 class Runs(Case):

@@ -118,8 +118,8 @@ class Cuts(Case):
                     self.place = self.folder()
                     taken = self.place / name
                     with mock.patch.object(copy, "check_opens", lambda *_, make=make: make(taken)):
-                        told = self.refused(lambda: copy.copy_to(str(self.desk), str(self.place / "desk.db"), True))
-                    self.assertEqual((told, os.listdir(self.place)), (f"{taken} already exists", [name]))
+                        message = self.refused(lambda: copy.copy_to(str(self.desk), str(self.place / "desk.db"), True))
+                    self.assertEqual((message, os.listdir(self.place)), (f"{taken} already exists", [name]))
 
     def refused(self, does):
         """Why something is refused, or what else comes of it."""

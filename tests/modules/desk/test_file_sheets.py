@@ -48,17 +48,17 @@ class StandIn(Case):
 
     def test_a_desk_that_does_not_open_is_named_by_the_first_sheet_after_what_the_program_says(self):
         self.answers(err="fault F3 Closed\\n", status=3)
-        with said() as told:
+        with said() as message:
             self.assertEqual(stopped(Failed, self.sheets.sheet, "status", 1), "desk.db does not open")
-            self.assertEqual((told.lines(), self.ran()), (["fault F3 Closed"], ["status copy 1"]))
+            self.assertEqual((message.lines(), self.ran()), (["fault F3 Closed"], ["status copy 1"]))
 
     def test_a_fault_after_a_sheet_is_none_of_opening(self):
         self.answers(out=ROLL.replace("\n", "\\n"))
         self.sheets.sheet("roll")
         self.answers(err="fault F1 Memory\\n", status=3)
-        with said() as told:
+        with said() as message:
             why = stopped(Failed, self.sheets.sheet, "status", 1)
-            self.assertEqual(told.lines(), ["fault F1 Memory"])
+            self.assertEqual(message.lines(), ["fault F1 Memory"])
         self.assertEqual(why, "the desk gave no sheet, and said what stands above")
 
     def test_a_program_that_cannot_be_run_is_named(self):

@@ -18,9 +18,9 @@ class Ranks(Case):
         self.assertEqual([*map(rank_number, RANKS)], [*range(1, 36)])
 
     def test_what_a_reader_of_a_tally_is_told_of_letters_is_so(self):
-        told = re.findall("([a-z]) (?:stands )?for ([0-9]+)", LETTERS)
-        self.assertEqual(len(told), 3)
-        for letter, number in told:
+        message = re.findall("([a-z]) (?:stands )?for ([0-9]+)", LETTERS)
+        self.assertEqual(len(message), 3)
+        for letter, number in message:
             with self.subTest(letter=letter):
                 self.assertEqual(rank_number(letter), int(number))
 

@@ -42,7 +42,7 @@ class Rooms(Case):
 
     def test_a_desk_that_does_not_open_by_a_fault_on_a_full_disk_has_that_named(self):
         with mock.patch("grdesk.desk.file.why_no_room", lambda _: "the disk of /x is full"):
-            told = "nothing was sent: desk.db does not open, and the program said: "
-            full = f"{told}fault F2 Store; the disk of /x is full: make room there first"
+            message = "nothing was sent: desk.db does not open, and the program said: "
+            full = f"{message}fault F2 Store; the disk of /x is full: make room there first"
             self.assertEqual(str(NotOpened("desk.db", self.file, "fault F2 Store\n")), full)
-            self.assertEqual(str(NotOpened("desk.db", self.file, "no file\n")), f"{told}no file")
+            self.assertEqual(str(NotOpened("desk.db", self.file, "no file\n")), f"{message}no file")

@@ -23,11 +23,11 @@ class Sent(Case):
 
     def sent(self, journal, answer):
         """Sends a close, which gets this answer, or meets this error."""
-        with mock.patch.object(delivery, "exchange", side_effect=[answer]), said() as told:
+        with mock.patch.object(delivery, "exchange", side_effect=[answer]), said() as message:
             try:
                 return delivery.send_kept(journal, Port(1), CLOSE, BEFORE)
             finally:
-                self.lines_said = told.lines()
+                self.lines_said = message.lines()
 
     def lines(self):
         with open(self.name, encoding="utf-8") as file:
@@ -54,8 +54,8 @@ class Sent(Case):
     def test_an_act_that_nobody_took_is_not_open(self):
         with journal_at(self.name, is_made=True) as journal:
             refused = NoResponse("Connection refused", was_connected=False)
-            told = stopped(Failed, self.sent, journal, refused)
-            self.assertTrue(told.startswith("nothing was sent: port 1"), told)
+            message = stopped(Failed, self.sent, journal, refused)
+            self.assertTrue(message.startswith("nothing was sent: port 1"), message)
             self.assertEqual((journal.entries.all["1"].fate, journal.entries.open), (Fate.NOT_ACCEPTED, []))
         self.assertEqual([(line["line"], line.get("count")) for line in self.lines()], [("act", None), ("found", None)])
 

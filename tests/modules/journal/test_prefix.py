@@ -8,7 +8,7 @@ from tests.support.program import T0, TOP
 
 sys.path.insert(0, str(TOP / "tools"))
 from grdesk.journal.entry import Entries, line_of  # noqa: E402
-from grdesk.journal.prefix import MOST_WAYS, Comparison, Made, taken_of  # noqa: E402
+from grdesk.journal.prefix import MOST_WAYS, Comparison, MadeDesk, taken_of  # noqa: E402
 from grdesk.stop import Refused  # noqa: E402
 
 ROWS = {"desk": {(1,): {"accepted": 4, "clock": T0}}, "resolution": {}, "ballot2": {}}
@@ -21,7 +21,7 @@ class Compared(Comparison):
     differences = ()
 
     def made(self):
-        return [Made(taken, "made", lines) for taken, lines in zip(self.ways(), self.differences)]
+        return [MadeDesk(taken, "made", lines) for taken, lines in zip(self.ways(), self.differences)]
 
 
 def sent(count):
@@ -57,8 +57,8 @@ class Ways(Case):
 
     def test_if_no_way_has_the_rows_of_the_desk_the_differences_of_the_first_are_named(self):
         why = self.refused(["developer login d1: name"], ["developer login d2: name"])
-        told = "nothing was entered: DESK is no copy of the desk of JOURNAL, since the first acts there make other rows"
-        self.assertIn(f"{told}: developer login d1: name. Put a copy", why)
+        message = "nothing was entered: DESK is no copy of the desk of JOURNAL, since the first acts there make other rows"
+        self.assertIn(f"{message}: developer login d1: name. Put a copy", why)
 
     def test_if_no_way_is_left_by_the_answers_nobody_can_tell(self):
         self.assertIn(UNSETTLED, self.refused())

@@ -44,8 +44,8 @@ class Libraries(Case):
         self.assertEqual(needs({C: ["GLIBC_PRIVATE", "GLIBC_2.4"]}), ["libc6 (>= 2.4)"])
 
     def test_a_library_of_no_known_package_is_named(self):
-        told = "the program needs the library libodd.so.1, of which no package is known here"
-        self.assertEqual(stopped(Failed, needs, {C: ["GLIBC_2.4"], "libodd.so.1": ["ODD_1.0"]}), told)
+        message = "the program needs the library libodd.so.1, of which no package is known here"
+        self.assertEqual(stopped(Failed, needs, {C: ["GLIBC_2.4"], "libodd.so.1": ["ODD_1.0"]}), message)
 
 
 class Room(Case):

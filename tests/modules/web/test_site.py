@@ -54,9 +54,9 @@ class Lists(Case):
     def published(self, *ranks, has_voters=True):
         """Whether all was written, which files there are of the resolution, and what was said."""
         place = self.folder() / "public"
-        with said() as told:
+        with said() as message:
             is_whole = publish(MadeUp(*ranks), str(place), has_voters)
-            lines = told.lines()
+            lines = message.lines()
         self.assertIn("written to", lines.pop())
         names = sorted(name.removeprefix("resolution-1.") for name in os.listdir(place) if name != "index.html")
         return is_whole, names, [line.removeprefix("gr-desk: ") for line in lines]

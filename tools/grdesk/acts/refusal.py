@@ -11,7 +11,7 @@ from grdesk.desk.sheet import proposer_of
 from grdesk.output import counted, shown
 
 # What is said of a stage, and the acts that are taken in it.
-STAGES = {
+STAGE_TEXTS = {
     "Draft": ("is a draft", ["sponsor", "unsponsor", "withdraw", "adopt", "amend"]),
     "Discussing": (
         "is under discussion",
@@ -75,41 +75,41 @@ FIELD_FORMS = {
 # What a refusal means for an act as it is.
 
 
-def login_given(case):
-    return f"the login is {shown(case.login())!r}"
+def login_given(situation):
+    return f"the login is {shown(situation.login())!r}"
 
 
-def texts_given(case):
-    texts = [f"the {field} has {counted(len(case.text(field)), 'character')}"
-             for field in ("name", "summary") if field in case.values]
-    if "text" in case.values:
-        texts.append(f"the text has {counted(len(case.values['text']), 'byte')}")
+def texts_given(situation):
+    texts = [f"the {field} has {counted(len(situation.text(field)), 'character')}"
+             for field in ("name", "summary") if field in situation.values]
+    if "text" in situation.values:
+        texts.append(f"the text has {counted(len(situation.values['text']), 'byte')}")
     return ", and ".join(texts)
 
 
 # What it means on the desk as it is: a sentence, or None where that says no more.
 
 
-def clock_back(case):
+def clock_back(situation):
     """The desk itself says, in a copy, whether it would take the act at its clock."""
-    clock = case.seen.clock()
-    answer = None if clock is None else case.seen.tried(case.act(), clock)
+    clock = situation.view.clock()
+    answer = None if clock is None else situation.view.tried(situation.act(), clock)
     if answer is None:
         return None
     if answer.status == 200:
         return f"possible from {dated(clock)} on"
     if refused := REFUSED.fullmatch(answer.body.decode(errors="replace")):
-        why = "; ".join(refusal(case.at_moment(clock), *refused.groups()))
+        why = "; ".join(refusal(situation.at_moment(clock), *refused.groups()))
         return f"at the desk's clock, {dated(clock)}, it would be refused too: {why}"
     return None
 
 
-def no_choice(case):
-    status = case.status()
-    if case.name == "cast":
-        return f"the ballot of {case.named()} has the places 1 to {places_of(status)}"
+def no_choice(situation):
+    status = situation.status()
+    if situation.name == "cast":
+        return f"the ballot of {situation.named()} has the places 1 to {places_of(status)}"
     count = len(status.choices)
-    return f"{case.named()} has {f'the choices 1 to {count}' if count > 1 else 'choice 1 alone'}"
+    return f"{situation.named()} has {f'the choices 1 to {count}' if count > 1 else 'choice 1 alone'}"
 
 
 def places_of(status):
@@ -117,62 +117,62 @@ def places_of(status):
     return sum(choice.place is not None for choice in status.choices) + 1
 
 
-def wrong_stage(case):
-    told, acts = STAGES[case.status().stage]
-    return f"{case.named()} {told}, which takes {', '.join(acts) if acts else 'no act any more'}"
+def wrong_stage(situation):
+    description, acts = STAGE_TEXTS[situation.status().stage]
+    return f"{situation.named()} {description}, which takes {', '.join(acts) if acts else 'no act any more'}"
 
 
-def ended(case):
-    status = case.status()
-    is_vote = case.name == "vote"
+def ended(situation):
+    status = situation.status()
+    is_vote = situation.name == "vote"
     what, (_, end) = ("voting on", status.voting) if is_vote else ("discussion of", status.discussion)
-    return f"the {what} {case.named()} ended {dated(end)}; {case.earlier(end)}"
+    return f"the {what} {situation.named()} ended {dated(end)}; {situation.earlier(end)}"
 
 
-def too_early(case):
-    status = case.status()
-    is_close = case.name == "close"
+def too_early(situation):
+    status = situation.status()
+    is_close = situation.name == "close"
     what, (_, end) = ("voting on", status.voting) if is_close else ("discussion of", status.discussion)
     if end > LATEST:
-        return f"the {what} {case.named()} ends {dated(end)}, and a desk takes no act that late"
-    return f"the {what} {case.named()} ends {dated(end)}; possible from then on"
+        return f"the {what} {situation.named()} ends {dated(end)}, and a desk takes no act that late"
+    return f"the {what} {situation.named()} ends {dated(end)}; possible from then on"
 
 
-def not_current(case):
-    developer = case.seen.roll()[case.login()]
+def not_current(situation):
+    developer = situation.view.roll()[situation.login()]
     return f"it is {developer.login}, {shown(developer.name)}; developer with status=current changes that"
 
 
-def lapsed(case):
-    choice = case.choice()
-    end = choice.lapse
-    return f"choice {choice.number} is short since {dated(choice.short)}, and lapsed {dated(end)}; {case.earlier(end)}"
+def lapsed(situation):
+    choice = situation.choice()
+    short, end = dated(choice.short), choice.lapse
+    return f"choice {choice.number} is short since {short}, and lapsed {dated(end)}; {situation.earlier(end)}"
 
 
-def already(case):
-    if case.name == "cast":
-        return f"the last line of the result of {case.named()} has the place that was chosen"
-    choice, login = case.choice(), case.login()
+def already(situation):
+    if situation.name == "cast":
+        return f"the last line of the result of {situation.named()} has the place that was chosen"
+    choice, login = situation.choice(), situation.login()
     if login in choice.sponsors:
         return f"{login} sponsors choice {choice.number}"
     return f"{login} proposes choice {choice.number}"
 
 
-def not_sponsor(case):
-    choice = case.choice()
+def not_sponsor(situation):
+    choice = situation.choice()
     return f"the sponsors of choice {choice.number} are: {', '.join(choice.sponsors) or 'none'}"
 
 
-def has_proposer(case):
-    choice = case.choice()
+def has_proposer(situation):
+    choice = situation.choice()
     return f"choice {choice.number} is {proposer_of(choice)}"
 
 
-def ends_too_soon(case):
-    start = case.status().discussion[0]
-    rows = case.seen.rows("resolution")
-    changed = 0 if rows is None else rows[case.resolution,]["changed"]
-    fit = [days for days in VARIATIONS if end_with(start, changed, days) >= case.at + NOTICE]
+def ends_too_soon(situation):
+    start = situation.status().discussion[0]
+    rows = situation.view.rows("resolution")
+    changed = 0 if rows is None else rows[situation.resolution,]["changed"]
+    fit = [days for days in VARIATIONS if end_with(start, changed, days) >= situation.at + NOTICE]
     if rows is not None:
         return f"{days_text(fit)} would do at this date" if fit else "no days would do at this date"
     # A change that no sheet reports can only put the end off.
@@ -190,16 +190,16 @@ def end_with(start, changed, days):
     return sorted([earliest, changed + CHANGE, latest])[1] if changed else earliest
 
 
-def bad_ranks(case):
-    given = counted(len(case.text("ranks")), "character")
-    return f"the ballot of {case.named()} has {places_of(case.status())} places, and the ranks have {given}"
+def bad_ranks(situation):
+    given = counted(len(situation.text("ranks")), "character")
+    return f"the ballot of {situation.named()} has {places_of(situation.status())} places, and the ranks have {given}"
 
 
-def not_tied(case):
-    places = case.seen.outcome(case.resolution).places
+def not_tied(situation):
+    places = situation.view.outcome(situation.resolution).places
     if len(places) == 1:
-        return f"place {places[0]} has won {case.named()}"
-    return f"in {case.named()} these places are level: {', '.join(map(str, places))}"
+        return f"place {places[0]} has won {situation.named()}"
+    return f"in {situation.named()} these places are level: {', '.join(map(str, places))}"
 
 
 OF_ACT = {"BadLogin": login_given, "BadText": texts_given, "NoDeveloper": login_given}
@@ -232,27 +232,27 @@ def record_text(roll, number):
     if record is None:
         return f"there is no record {number}"
     text = ",".join(record)
-    told = text if len(text) <= MOST_OF_A_RECORD else f"{text[:MOST_OF_A_RECORD]}.."
-    return f"record {number} is {shown(told)!r}"
+    excerpt = text if len(text) <= MOST_OF_A_RECORD else f"{text[:MOST_OF_A_RECORD]}.."
+    return f"record {number} is {shown(excerpt)!r}"
 
 
-def refusal(case, name, record):
+def refusal(situation, name, record):
     """The sentences of a refusal; that of a row has the number of its record."""
     yield f"{name}: {MEANINGS[name]}"
     if record:
-        yield record_text(case.values[ROLL], int(record))
+        yield record_text(situation.values[ROLL], int(record))
     if name in OF_ACT:
-        yield OF_ACT[name](case)
-    if case.seen and name in OF_DESK and (detail := OF_DESK[name](case)):
+        yield OF_ACT[name](situation)
+    if situation.view and name in OF_DESK and (detail := OF_DESK[name](situation)):
         yield detail
 
 
-def wrong_request(case, line):
+def wrong_request(situation, line):
     """The sentences of what is no refusal of the desk's, as it was not asked yet."""
     if field := re.fullmatch("bad field ([a-z]+)\n", line):
         yield f"{field[1]}= must be {FIELD_FORMS[field[1]]}"
     if record := re.fullmatch("bad roll ([0-9]+)\n", line):
         yield "the first record of a roll file is login,name,status, and each further one has three fields in UTF-8"
-        yield record_text(case.values[ROLL], int(record[1]))
+        yield record_text(situation.values[ROLL], int(record[1]))
     if line == "too large\n":
         yield "an import has 1,048,576 bytes at most; import the roll in parts, since an import removes nobody"

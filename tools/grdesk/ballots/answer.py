@@ -1,4 +1,4 @@
-"""What a voter is told of the ballots that came: what was entered, by which token and receipt, and what was refused."""
+"""The mail to a voter about the ballots that came: what was entered, by which token and receipt, or refused."""
 import hashlib
 from functools import cached_property
 
@@ -50,8 +50,8 @@ class Answer:
 
     def __init__(self, ballots, form, domain):
         self.ballots, self.form = ballots, form
-        counted = [each for each in ballots if each.case is Standing.COUNTED][-1:]
-        self.refused = [each for each in ballots if each.case is Standing.REFUSED]
+        counted = [each for each in ballots if each.standing is Standing.COUNTED][-1:]
+        self.refused = [each for each in ballots if each.standing is Standing.REFUSED]
         self.entered = [counted_text(each, form) for each in counted]
         last = [*self.refused, *counted][-1]
         self.to, self.answered = f"{last.login}@{domain}" if domain else None, message_id_of(last)
@@ -60,8 +60,8 @@ class Answer:
 
     @cached_property
     def mail(self):
-        told = (refused_text(each, f", which arrived {date_of(each.moment)},") for each in self.refused)
-        text = "\n\n".join([self.form.title, *self.entered, *told]) + "\n"
+        message = (refused_text(each, f", which arrived {date_of(each.moment)},") for each in self.refused)
+        text = "\n\n".join([self.form.title, *self.entered, *message]) + "\n"
         return mail_of(f"Your ballot on resolution {self.form.number}", text, self.to, self.answered)
 
 
@@ -76,7 +76,7 @@ class Answers:
     def all(self):
         """The login of each voter whose ballots were answered, and the answer."""
         for login, ballots in self.batch.of_voters().items():
-            if answered := [each for each in ballots if each.case in ANSWERED]:
+            if answered := [each for each in ballots if each.standing in ANSWERED]:
                 yield login, self.answer_to(login, answered)
 
     def answer_to(self, login, ballots):

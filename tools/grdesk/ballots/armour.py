@@ -29,15 +29,20 @@ WHOLE = [Armour.SIGNED, Armour.SIGNATURE, Armour.END]
 DETACHED = [Armour.SIGNATURE, Armour.END]
 KEYS = Armour.PUBLIC, Armour.PRIVATE, Armour.SECRET
 # gpg passes over a CR anywhere behind the hyphens, and takes a NUL for the end of the line. A mark U+FEFF at the top of
-# a text is passed over by others.
-LINE = re.compile(rb"(?:\A\xef\xbb\xbf|^)-----((?:BEGIN|END) PGP [A-Z ]+)-----([ \t\r]*)(?:$|\0)", re.M)
+# a text is passed over by others. What must stand before the hyphens comes after them: `re` is fast if letters come first.
+LINE = re.compile(
+    rb"-----(?:(?<=^-----)|(?<=\A\xef\xbb\xbf-----))((?:BEGIN|END) PGP [A-Z ]+)-----([ \t\r]*)(?:$|\0)", re.M)
 STRICT = re.compile(rb"[ \t]*\r?")
 HASH = re.compile(rb"Hash: [ \t]*[!-~][ -~\t]*")
 # What stands between the first and the last line of armour that programs write: a head, which an empty line ends, lines
 # of digits, and a checksum. gpg takes less for armour too, and finds a message in what others pass over.
-HEAD = re.compile(rb"\n(?:[A-Za-z]+: [^\n]*\n){0,20}[ \t]*\r?\n")
-BODY = re.compile(rb"([A-Za-z0-9+/\r\n]*)(?:(?<=\n)|(={1,2})\r?\n)(?:=[A-Za-z0-9+/]{4}\r?\n)?")
+HEAD = re.compile(rb"\n(?:[A-Za-z]+: [^\n]{0,9000}\n){0,20}[ \t]{0,9000}\r?\n")
+# The digits are looked for ahead, so that `re` does not look for a shorter run of them if what follows does not fit.
+BODY = re.compile(rb"(?=([A-Za-z0-9+/\r\n]*))\1(?:(?<=\n)|(={1,2})\r?\n)(?:=[A-Za-z0-9+/]{4}\r?\n)?")
 LONGEST_LINE = 76
+# gpg passes over a line of 20,000 bytes if it looks for armour or reads a head, even if it is blank. So what is before
+# the empty line for gpg may be behind it for others.
+LONGEST_READ = 10_000
 # Where quoted-printable breaks such a line. For gpg its digits end there, and so few behind it are no checksum.
 SOFT_END = re.compile(rb"=\r?\n(?=[A-Za-z0-9+/]{1,3}(?:\r?\n|=3D)|=3D)")
 KEY_END = re.compile(rb"\n-----END PGP ([A-Z ]+)-----[ \t]*\r?(?:\n|\Z)")
@@ -45,6 +50,9 @@ KEY_END = re.compile(rb"\n-----END PGP ([A-Z ]+)-----[ \t]*\r?(?:\n|\Z)")
 MOST_LINES = 100
 # So many packets are no key and no signature.
 MOST_PACKETS = 5_000
+# No more packets of keys are looked at in a mail. A key that is encoded may be looked at twice, or as a part of an
+# attached mail three times.
+MOST_OF_KEYS = 20_000
 # The tags of packets (RFC 9580, 5): a signature, those that a key begins with, those that have a version for a key, and
 # those that may be in its armour beside them, which are signatures, names and pictures.
 SIGNATURE_TAG, FIRST_TAGS, KEY_TAGS, OTHER_TAGS = 2, (5, 6), (5, 6, 7, 14), (2, 13, 17)
@@ -56,9 +64,11 @@ NO_TEXT = "the mail has a signature, but the beginning of the signed text is mis
 NO_END = 'the signature has no end: the line "-----END PGP SIGNATURE-----" is missing'
 NO_EMPTY_LINE = "the empty line before the signed text is missing"
 DAMAGED = "the signed text is damaged: a line begins with a hyphen that is not escaped"
+TOO_LONG = f"a line of the signed text has more than {LONGEST_READ:,} bytes"
 DAMAGED_LINE = "a line that begins or ends the signed text is damaged"
 UNKNOWN_ORDER = "the OpenPGP lines in the mail are not those of one signed text"
 NO_SIGNATURE_IN_IT = "the signed text has something else in the place of its signature"
+TOO_MANY_KEYS = "the mail has too many OpenPGP keys, or one that is too large; send only the form"
 
 # What is missing, by the armour lines that are there.
 MISSING = {
@@ -88,23 +98,47 @@ class Piece(NamedTuple):
     end: int
 
 
-def armour_in(content):
-    """The armour lines in a text, without those of keys. Of too many the first alone are found."""
-    found, keys = [], 0
-    for line in LINE.finditer(content):
-        name = line[1]
-        if name not in {each.value for each in Armour}:
-            continue
-        end = content.find(b"\n", line.end(2))
-        end = len(content) if end < 0 else end
-        is_strict = line[0].startswith(b"-") and line.end() == end and bool(STRICT.fullmatch(line[2]))
-        each = Line(Armour(name), line.start(), end, is_strict)
-        keys += each.armour in KEYS
-        if each.armour not in KEYS or keys > MOST_LINES or not is_strict or not is_key(content, each):
-            found.append(each)
-        if len(found) > MOST_LINES:
-            break
-    return found
+class ArmourReader:
+    """Finds the armour lines in the texts of one mail, and counts the packets of its keys."""
+
+    def __init__(self):
+        self.packets = 0
+
+    def lines(self, content):
+        """The armour lines in a text, without those of keys. Of too many the first alone are found."""
+        found, keys = [], 0
+        for line in LINE.finditer(content):
+            name = line[1]
+            if name not in {each.value for each in Armour}:
+                continue
+            end = content.find(b"\n", line.end(2))
+            end = len(content) if end < 0 else end
+            is_first = content[line.start() - 1 : line.start()] in (b"", b"\n")
+            is_strict = is_first and line.end() == end and bool(STRICT.fullmatch(line[2]))
+            each = Line(Armour(name), line.start(), end, is_strict)
+            keys += each.armour in KEYS
+            if each.armour not in KEYS or keys > MOST_LINES or not is_strict or not self.is_key(content, each):
+                found.append(each)
+            if len(found) > MOST_LINES:
+                break
+        return found
+
+    def is_key(self, content, line):
+        """Whether the armour that this line begins has nothing but keys, to the end of its last packet."""
+        end = KEY_END.match(content, content.find(b"\n-----", line.end))
+        if not end or b"BEGIN PGP " + end[1] != line.armour.value:
+            return False
+        packets = self.counted(packets_in(content[line.end : end.start() + 1]))
+        first = next(packets, None)
+        return is_of_key(first) and first.tag in FIRST_TAGS and all(map(is_of_key, packets))
+
+    def counted(self, packets):
+        """These packets. It ends with NotRead if the mail has too many."""
+        for packet in packets:
+            self.packets += 1
+            if self.packets > MOST_OF_KEYS:
+                raise NotRead(TOO_MANY_KEYS)
+            yield packet
 
 
 def piece_in(content, lines):
@@ -122,8 +156,7 @@ def piece_in(content, lines):
     begin = text_begin(content, first.end + 1, second.begin)
     if not is_signature(content[second.end : last.begin]):
         raise NotRead(NO_SIGNATURE_IN_IT)
-    text = content[begin : second.begin].split(b"\n")[:-1]
-    return Piece(b"\n".join(unescaped(line) for line in text), begin, second.begin)
+    return Piece(unescaped(content[begin : max(begin, second.begin - 1)]), begin, second.begin)
 
 
 def text_begin(content, begin, end):
@@ -140,28 +173,28 @@ def text_begin(content, begin, end):
     raise NotRead(NO_EMPTY_LINE)
 
 
-def unescaped(line):
-    """A signed line without the hyphen that was put before another one (RFC 9580, 7.2)."""
-    if line.startswith(b"- "):
-        return line[2:]
-    if line.startswith(b"-"):
+def unescaped(text):
+    """A signed text without the hyphen that was put before each line that begins with one (RFC 9580, 7.2)."""
+    text = b"\n" + text
+    if text.count(b"\n-") != text.count(b"\n- "):
         raise NotRead(DAMAGED)
-    return line
+    return text.replace(b"\n- ", b"\n")[1:]
+
+
+def check_lengths(content, lines):
+    """Looks whether a verifier reads each line whole from the first of these armour lines to the last one."""
+    begin, end = lines[0].begin, lines[-1].end
+    while end - begin > LONGEST_READ:
+        # The last line that begins so near that no line before it is too long.
+        begin = content.rfind(b"\n", begin, begin + LONGEST_READ + 1) + 1
+        if not begin:
+            raise NotRead(TOO_LONG)
 
 
 def is_signature(armour):
     """Whether an armour has signatures alone. One that has a text too is verified without what stands beside it."""
     found = list(packets_in(armour))
     return bool(found) and all(packet and packet.tag == SIGNATURE_TAG for packet in found)
-
-
-def is_key(content, line):
-    """Whether the armour that this line begins has nothing but keys, to the end of its last packet."""
-    end = KEY_END.match(content, content.find(b"\n-----", line.end))
-    if not end or b"BEGIN PGP " + end[1] != line.armour.value:
-        return False
-    found = list(packets_in(content[line.end : end.start() + 1]))
-    return bool(found) and all(map(is_of_key, found)) and found[0].tag in FIRST_TAGS
 
 
 def is_of_key(packet):
@@ -205,7 +238,9 @@ def content_in(armour):
     if not head:
         return None
     body = armour[head.end() :]
-    found = BODY.fullmatch(body) or BODY.fullmatch(SOFT_END.sub(b"", body).replace(b"=3D", b"="))
+    found = BODY.fullmatch(body)
+    if not found and b"=" in body:
+        found = BODY.fullmatch(SOFT_END.sub(b"", body).replace(b"=3D", b"="))
     if not found:
         return None
     *lines, last = found[1].replace(b"\r\n", b"\n").split(b"\n")

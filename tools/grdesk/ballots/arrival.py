@@ -9,7 +9,7 @@ from enum import Enum
 from typing import NamedTuple, Optional
 
 from grdesk.acts.refusal import MEANINGS
-from grdesk.ballots.form_reader import FilledForm, OfAnotherVote, read
+from grdesk.ballots.form_reader import FilledForm, OfAnotherVote, read_form
 from grdesk.ballots.mail import Mail, mails_at
 from grdesk.ballots.mailbox import is_kind, is_of_mails
 from grdesk.stop import Failed, NotRead
@@ -145,7 +145,7 @@ def is_filled(path, form):
 
 def has_filled(mail, form):
     try:
-        return bool(read(form, mail.written().text))
+        return bool(read_form(form, mail.written().text))
     except NotRead:
         return False
 
@@ -159,7 +159,7 @@ def arrival_of(developer, mail, form, host, others=NO_OTHERS):
     try:
         written = mail.written()
         arrival.is_signed = written.is_signed
-        arrival.filled = read(form, written.text, others)
+        arrival.filled = read_form(form, written.text, others)
     except OfAnotherVote as other:
         if others[other.form] or moment < other.form.end:
             raise

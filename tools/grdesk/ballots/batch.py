@@ -7,7 +7,7 @@ from typing import Optional
 
 from grdesk.acts.act import Act
 from grdesk.ballots.arrival import Arrival, By, Clock
-from grdesk.ballots.doubt import MOVED, OTHER_CLOCK, SAME_ID, SAME_MOMENT, UNTAKEN, Known, Sharing, why_again
+from grdesk.ballots.doubt import MOVED, OTHER_CLOCK, SAME_ID, SAME_MOMENT, UNTAKEN, KnownBallot, Sharing, why_again
 from grdesk.ballots.finality import is_final
 from grdesk.dates import date_of
 from grdesk.desk.limit import DAY
@@ -55,7 +55,7 @@ class Ballot:
     whether its voter was answered before, or the Secretary was told that it is replaced."""
 
     arrival: Arrival
-    case: Standing
+    standing: Standing
     entry: Optional[Entry] = None
     why: Optional[str] = None
     replaced: Optional[Replaced] = None
@@ -64,7 +64,7 @@ class Ballot:
     is_other_text: bool = False
     is_moved: bool = False
     is_unsure: bool = False
-    is_told: bool = False
+    is_reported: bool = False
     # The resolution. A mail may have a ballot on another one too.
     number: int = 0
 
@@ -84,11 +84,11 @@ class Ballot:
     def is_new(self):
         return self.entry is None
 
-    def put(self, case, why):
-        self.case, self.why = case, why
+    def put(self, standing, why):
+        self.standing, self.why = standing, why
 
     def digest(self):
-        """By what it is known that the Secretary was told of it."""
+        """The digest by which an outbox keeps that a table reported it."""
         return hashlib.sha256(f"{self.number}\n{self.login}\n{self.arrival.mail.key()}\n".encode()).hexdigest()
 
     def act(self, number):
@@ -99,18 +99,18 @@ class Ballot:
 @dataclass
 class Batch:
     """The ballots on a resolution that came. `ends` are those of all votes that are open on the desk, as far as is
-    known. `held` are the ranks and receipts that the desk has by login, or None by a port; `clock` is the desk's there,
-    and the machine's by a port. `told` are the digests of ballots that were reported as replaced, and `roll` has the
-    developers by their logins."""
+    known. `stored` are the ranks and receipts that the desk has by login, or None by a port; `clock` is the desk's, and
+    the machine's by a port. `reported` are the digests of ballots that a table has shown as replaced, and `roll` has
+    the developers by their logins."""
 
     number: int
     end: int
     ends: list
     now: int
     clock: int
-    held: Optional[dict]
+    stored: Optional[dict]
     entries: Entries
-    told: set
+    reported: set
     roll: dict
     domain: Optional[str] = None
     ballots: list = field(default_factory=list)
@@ -123,7 +123,7 @@ class Batch:
         """Puts each arrival, and finds out how it stands with it."""
         self.ballots = [self.met(each) for each in each_once(arrivals)]
         for each in self.ballots:
-            each.case = self.known(each)
+            each.standing = self.standing_alone(each)
         self.look_whose()
         for ballots in self.of_voters().values():
             self.judge(ballots)
@@ -140,7 +140,7 @@ class Batch:
         replaced = same_replaced[0] if same_replaced else None
         ballot = Ballot(arrival, Standing.REFUSED, entry, arrival.why, replaced, number=self.number)
         ballot.is_other_text = bool(own or own_replaced) and not (same or same_replaced)
-        ballot.votes_again = arrival.login in (self.held or ()) or any(map(self.has, votes))
+        ballot.votes_again = arrival.login in (self.stored or ()) or any(map(self.has, votes))
         is_better = arrival.by is By.HOST and replaced and clock_of(replaced) is not Clock.HOST
         known = entry or (None if is_better else replaced)
         if known and arrived(known) != arrival.moment:
@@ -152,7 +152,7 @@ class Batch:
         """Whether the desk has accepted a vote of the journal, by the journal or by its ranks and its receipt."""
         login, ranks, token = (entry.fields[name] for name in ("login", "ranks", "token"))
         ballot = ranks, receipt_of(self.number, login, token)
-        return entry.fate is Fate.ACCEPTED or self.held is not None and self.held.get(login) == ballot
+        return entry.fate is Fate.ACCEPTED or self.stored is not None and self.stored.get(login) == ballot
 
     def may_have(self, entry):
         """Whether the desk has accepted it, or may have. It has not what is gone with a desk, or was refused."""
@@ -162,7 +162,7 @@ class Batch:
         """The votes of the journal that the desk has of a login, or may have, in the order of their arrivals."""
         return sorted(filter(self.may_have, self.votes.get(login, [])), key=arrived)
 
-    def known(self, ballot):
+    def standing_alone(self, ballot):
         """How it stands with a ballot by itself: that it was answered, or is not taken, or else should be sent."""
         entry = ballot.entry
         if entry and self.has(entry):
@@ -195,9 +195,9 @@ class Batch:
     def is_open(self, ballot):
         """Whether nothing that was done before says how it stands with a ballot. One that may be there stays as it is.
         """
-        may_be_there = self.held is None and ballot.entry is not None and ballot.entry.fate is Fate.OPEN
-        is_answered = ballot.case is Standing.REFUSED and not ballot.is_new
-        return ballot.case in (Standing.TO_SEND, Standing.REFUSED) and not may_be_there and not is_answered
+        may_be_there = self.stored is None and ballot.entry is not None and ballot.entry.fate is Fate.OPEN
+        is_answered = ballot.standing is Standing.REFUSED and not ballot.is_new
+        return ballot.standing in (Standing.TO_SEND, Standing.REFUSED) and not may_be_there and not is_answered
 
     def why_of_another(self, ballot):
         """Why a mail is none of this voter's, by its From, or None. It tells something only where the domain is known.
@@ -214,16 +214,17 @@ class Batch:
         """Finds out how it stands with the ballots of one voter."""
         self.look_for_other_texts(ballots)
         self.look_for_earlier_ones(ballots)
-        rivals = [each for each in ballots if each.arrival.is_taken and each.case in (Standing.TO_SEND, Standing.AHEAD)]
+        coming = Standing.TO_SEND, Standing.AHEAD
+        rivals = [each for each in ballots if each.arrival.is_taken and each.standing in coming]
         is_moved = any(each.is_moved for each in ballots)
         for each in ballots:
-            if each.case is Standing.TO_SEND:
-                each.case = self.case(each, rivals, is_moved)
+            if each.standing is Standing.TO_SEND:
+                each.standing = self.standing_beside_others(each, rivals, is_moved)
                 each.token = each.entry.fields["token"] if each.entry else each.arrival.filled.token
-        sent = [each.moment for each in ballots if each.case in SENT]
+        sent = [each.moment for each in ballots if each.standing in SENT]
         for each in ballots:
-            if each.case is Standing.GONE and any(moment > each.moment for moment in sent):
-                each.case = Standing.REPLACED
+            if each.standing is Standing.GONE and any(moment > each.moment for moment in sent):
+                each.standing = Standing.REPLACED
 
     def look_for_other_texts(self, ballots):
         """Leaves undecided what has the Message-ID of another text, but the one that the journal has."""
@@ -241,16 +242,16 @@ class Batch:
         votes = self.votes_there(ballots[0].login)
         known = [known_of(each) for each in votes]
         replaced = [known_of(each) for each in self.replaced.get(ballots[0].login, [])]
-        coming = (each for each in ballots if each.case is Standing.TO_SEND and each.moment < self.end)
+        coming = (each for each in ballots if each.standing is Standing.TO_SEND and each.moment < self.end)
         for each in sorted(coming, key=lambda each: each.moment):
-            said = Known(each.moment, *each.arrival.filled)
+            said = KnownBallot(each.moment, *each.arrival.filled)
             is_overtaken = any(other.moment > each.moment for other in known)
             if each.is_new and not is_overtaken and (why := why_again(said, known, replaced)):
                 each.put(Standing.UNDECIDED, why)
             elif each.entry not in votes:
                 known = sorted([*known, said], key=lambda other: other.moment)
 
-    def case(self, ballot, rivals, is_moved):
+    def standing_beside_others(self, ballot, rivals, is_moved):
         """How it stands with a ballot of which no answer is known, beside others of its voter. `is_moved` is whether a
         file of one that came before has another time than it had."""
         votes = self.votes_there(ballot.login)
@@ -271,7 +272,7 @@ class Batch:
             return Standing.COUNTED
         if is_unsure:
             # A text may have been sent again. A mail would have another Message-ID then.
-            if "message_id" in ballot.arrival.source and ballot.digest() in self.told:
+            if "message_id" in ballot.arrival.source and ballot.digest() in self.reported:
                 ballot.is_unsure = True
                 return Standing.REPLACED
             ballot.why = MOVED
@@ -288,7 +289,7 @@ class Batch:
             return known
         if self.ends_before(moment):
             return Standing.BEHIND
-        is_doubtful = self.held is None and ballot.entry is not None and ballot.entry.fate is Fate.OPEN
+        is_doubtful = self.stored is None and ballot.entry is not None and ballot.entry.fate is Fate.OPEN
         return Standing.DOUBTFUL if is_doubtful else Standing.TO_SEND
 
     def ends_before(self, moment):
@@ -322,11 +323,11 @@ class Batch:
         return found
 
     def to_send(self):
-        return [each for each in self.ballots if each.case in SENT]
+        return [each for each in self.ballots if each.standing in SENT]
 
     def replaced_now(self):
         """The ballots that are replaced before they were sent, and of which the journal does not say so yet."""
-        return [each for each in self.ballots if each.case is Standing.REPLACED and each.arrival.is_taken
+        return [each for each in self.ballots if each.standing is Standing.REPLACED and each.arrival.is_taken
                 and each.is_new and each.replaced is None and not each.is_unsure]
 
     def moments(self, ballots):
@@ -342,7 +343,7 @@ class Batch:
     def unknown(self):
         """The ballots to be sent of voters of whom the desk has one that the journal does not have."""
         return [each for each in self.to_send()
-                if each.login in (self.held or ()) and not any(map(self.has, self.votes.get(each.login, [])))]
+                if each.login in (self.stored or ()) and not any(map(self.has, self.votes.get(each.login, [])))]
 
     def gone(self):
         """The logins of which the last vote of the journal is gone with the desk that had it, also if no mail of it is
@@ -354,7 +355,7 @@ class Batch:
 
     def is_done(self):
         """Whether each voter has an answer, and each ballot was entered, or replaced by one that was."""
-        cases = {each.case for each in self.ballots}
+        cases = {each.standing for each in self.ballots}
         return cases <= {Standing.COUNTED, Standing.REPLACED} and not any(self.gone())
 
 
@@ -395,7 +396,7 @@ def those_by(arrival, kept):
 
 def known_of(kept):
     """What a vote of the journal says, or a ballot there that was replaced, and when it arrived."""
-    return Known(arrived(kept), kept.fields["ranks"], kept.fields["token"])
+    return KnownBallot(arrived(kept), kept.fields["ranks"], kept.fields["token"])
 
 
 def each_once(arrivals):
@@ -429,8 +430,8 @@ def clock_of(vote):
     if isinstance(vote, Ballot) and vote.is_new:
         return vote.arrival.clock
     entry = vote.entry if isinstance(vote, Ballot) else vote
-    told = (entry.source or {}).get("clock")
-    return Clock(told) if told in {each.value for each in Clock} else None
+    clock = (entry.source or {}).get("clock")
+    return Clock(clock) if clock in {each.value for each in Clock} else None
 
 
 def is_by(entry, mail):

@@ -14,7 +14,7 @@ UNTAKEN = "its file is later than the end of the vote, and its field Received is
 SAME_ID = "another mail of this voter has the same Message-ID, and says something else"
 
 
-class Known(NamedTuple):
+class KnownBallot(NamedTuple):
     """What a ballot says, and when it arrived. The token is None where a form has none, so that one is made for it."""
 
     moment: int
@@ -41,8 +41,8 @@ def why_again(said, known, replaced):
     for each in [*earlier, *replaced]:
         if each.moment < last and each.may_be(said):
             what = "ranks" if said.token is None else "token"
-            told = f"it has the {what} of the ballot that arrived {date_of(each.moment)}, before the last one"
-            return f"{told}: somebody may have sent that again"
+            message = f"it has the {what} of the ballot that arrived {date_of(each.moment)}, before the last one"
+            return f"{message}: somebody may have sent that again"
     return None
 
 
@@ -66,8 +66,8 @@ class Sharing:
         for mark in marks_of_ballot(ballot):
             others = {login: place for login, place in self.places[mark].items() if login != ballot.login}
             if others:
-                told = ", ".join(f"{login} ({place})" for login, place in sorted(others.items()))
-                return f"the same {mark[0]} is also that of {told}"
+                message = ", ".join(f"{login} ({place})" for login, place in sorted(others.items()))
+                return f"the same {mark[0]} is also that of {message}"
         return None
 
 

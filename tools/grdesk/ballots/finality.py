@@ -47,5 +47,5 @@ def is_final(answer, is_late):
 def remedy(answer, is_port):
     """What a passing refusal means, and what to do now."""
     name = name_of(answer)
-    told = f"{name}: {MEANINGS[name]}" if name in MEANINGS else "the desk gave an answer that no vote gets"
-    return f"{told}. Nothing is lost; {REMEDIES.get(name, 2 * (RUN_AGAIN,))[is_port]}"
+    message = f"{name}: {MEANINGS[name]}" if name in MEANINGS else "the desk gave an answer that no vote gets"
+    return f"{message}. Nothing is lost; {REMEDIES.get(name, 2 * (RUN_AGAIN,))[is_port]}"

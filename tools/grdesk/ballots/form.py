@@ -3,7 +3,7 @@ import hashlib
 import textwrap
 from dataclasses import dataclass
 
-from grdesk.acts.refusal import STAGES
+from grdesk.acts.refusal import STAGE_TEXTS
 from grdesk.dates import date_of
 from grdesk.desk.limit import DAY
 from grdesk.desk.rank import DEFAULT_OPTION, NO_RANK, rank_number
@@ -100,8 +100,8 @@ def placed_in(status):
 def form_of(status):
     """The form of a vote that was called."""
     if status.voting is None:
-        told = f"resolution {status.number} {STAGES[status.stage][0]}"
-        raise Refused(f"{told}, and has no ballot before it is called")
+        message = f"resolution {status.number} {STAGE_TEXTS[status.stage][0]}"
+        raise Refused(f"{message}, and has no ballot before it is called")
     summaries = *(shown(choice.summary) for choice in placed_in(status)), DEFAULT_OPTION
     return Form(status.number, *status.voting, status.developers, summaries)
 

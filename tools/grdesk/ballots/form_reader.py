@@ -52,14 +52,14 @@ def key(text):
     return unicodedata.normalize("NFC", text) if len(text) <= MOST_COMPOSED else text
 
 
-def read(form, text, others=()):
+def read_form(form, text, others=()):
     """What is filled in on the one form of this vote in a text. Beside it forms of other votes may stand there."""
     forms, passed = [], []
     for lines in forms_in(text):
-        if other := next((each for each in others if Pieces(lines).are_of(each)), None):
+        if other := next((each for each in others if FormLines(lines).are_of(each)), None):
             passed.append((other, lines))
         else:
-            forms.append(Pieces(lines).boxes_and_token(form))
+            forms.append(FormLines(lines).boxes_and_token(form))
     filled = [(boxes, token) for boxes, token in forms if any(boxes)]
     if not filled:
         check_of_this_vote(bool(forms), passed)
@@ -85,7 +85,7 @@ def check_of_this_vote(is_there, passed):
 def is_filled(form, lines):
     """Whether a form has anything in its boxes. One that is not read may have."""
     try:
-        return any(Pieces(lines).boxes_and_token(form)[0])
+        return any(FormLines(lines).boxes_and_token(form)[0])
     except NotRead:
         return True
 
@@ -109,7 +109,7 @@ def forms_in(text):
         raise NotRead(f'a form has no end: the line "{END}" is missing')
 
 
-class Pieces:
+class FormLines:
     """The lines of a form, of which the next ones are taken. One may have been wrapped."""
 
     def __init__(self, lines):

@@ -96,7 +96,7 @@ class Mail(Item):
             return f"it cannot be read as a mail: {type(error).__name__}"
 
 
-class Passed(NamedTuple):
+class SkippedMail(NamedTuple):
     """What is passed over: its name, why it is, as a sentence without `it`, and the mail, if it is one."""
 
     name: str
@@ -114,5 +114,5 @@ class Box(NamedTuple):
 def mails_at(path):
     """The mails in a file, an mbox or a Maildir, in their order there, and what is passed over."""
     found, skipped = items_at(path)
-    passed = [Passed(each.name, each.why, Mail.of(each.item) if each.item else None) for each in skipped]
+    passed = [SkippedMail(each.name, each.why, Mail.of(each.item) if each.item else None) for each in skipped]
     return Box([Mail.of(item) for item in found], passed)

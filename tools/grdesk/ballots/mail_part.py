@@ -12,6 +12,8 @@ from grdesk.output import quoted
 from grdesk.stop import NotRead
 
 MOST_PARTS, MOST_LEVELS = 500, 30
+# No more bytes are decoded of attached mails, each of which may have another one.
+MOST_DECODED = 30_000_000
 # Base64 that is put together of more pieces than these is damaged.
 MOST_PIECES = 100
 # What changes no byte of a part.
@@ -20,9 +22,11 @@ ENCODINGS = *AS_IT_IS, "quoted-printable", "base64"
 
 TOO_DEEP = "the mail has too many parts in one another"
 TOO_MANY = f"the mail has more than {MOST_PARTS} parts"
+TOO_LARGE = f"the mails that are attached have more than {MOST_DECODED:,} bytes; send only the form"
 NO_BOUNDARY = "the mail has parts, and does not say what separates them"
 DAMAGED_BASE64 = "a text of the mail is damaged: it is not valid base64"
 BASE64 = re.compile(rb"[A-Za-z0-9+/]*={0,2}")
+NO_DIGITS = re.sub(rb"[A-Za-z0-9+/]", b"", bytes(range(256)))
 
 
 @dataclass(frozen=True, eq=False)
@@ -57,7 +61,7 @@ class Part:
 
     def text(self, content):
         """What is in it, or in a piece of it, as a text."""
-        if self.encoding == "base64" and not BASE64.fullmatch(re.sub(rb"[ \t\r\n]", b"", self.raw)):
+        if self.encoding == "base64" and not BASE64.fullmatch(self.raw.translate(None, b" \t\r\n")):
             raise NotRead(DAMAGED_BASE64)
         return decoded(content, "utf-8" if self.charset is None else self.charset)
 
@@ -85,7 +89,7 @@ def content_of(raw, encoding):
 
 
 def from_base64(piece):
-    piece = re.sub(rb"[^A-Za-z0-9+/]", b"", piece)
+    piece = piece.translate(None, NO_DIGITS)
     return base64.b64decode(piece[: len(piece) - (len(piece) % 4 == 1)] + b"==")
 
 
@@ -95,10 +99,10 @@ def parts_of(head):
 
 
 class PartReader:
-    """Finds the parts of one mail, and counts them."""
+    """Finds the parts of one mail, and counts them and the bytes of those that are decoded."""
 
     def __init__(self):
-        self.count = 0
+        self.count = self.decoded = 0
 
     def part(self, head, end, level=0, default="text/plain"):
         """What stands behind a head, up to its end."""
@@ -124,6 +128,9 @@ class PartReader:
         if encoding not in AS_IT_IS:
             whole = content_of(whole[begin:end], encoding)
             begin, end = 0, len(whole)
+            self.decoded += end
+            if self.decoded > MOST_DECODED:
+                raise NotRead(TOO_LARGE)
         return self.part(Head(whole, begin, end), end, level + 1)
 
     def parts(self, whole, begin, end, level, kind):

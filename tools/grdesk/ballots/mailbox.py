@@ -100,7 +100,7 @@ def opened(name, folder=None):
 
 def check_kind(about):
     if not stat.S_ISREG(about.st_mode):
-        raise Unreadable(next((told for is_it, told in KINDS if is_it(about.st_mode)), "is no file"))
+        raise Unreadable(next((name for is_it, name in KINDS if is_it(about.st_mode)), "is no file"))
 
 
 @contextmanager

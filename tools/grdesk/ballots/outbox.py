@@ -39,14 +39,14 @@ class Outbox:
         # A stop may have cut off the last one, and left a mail without its name.
         self.length = lines.rfind(b"\n") + 1
         os.ftruncate(self.written, self.length)
-        self.known = set(lines[: self.length].decode().split())
+        self.digests = set(lines[: self.length].decode().split())
         for name in self.place.names():
             if name.endswith(BEGUN):
                 self.place.remove(name)
 
     def has(self, digest):
         """Whether the mail with this digest was written before, or the ballot reported."""
-        return digest in self.known
+        return digest in self.digests
 
     def put(self, login, answer):
         """Writes an answer, where it was not written before: under its name at once and whole. Gives whether it did.
@@ -71,7 +71,7 @@ class Outbox:
                     os.ftruncate(self.written, self.length)
                     raise
             self.length += len(lines)
-            self.known.update(new)
+            self.digests.update(new)
 
     def end(self):
         self.place.sync()
@@ -83,8 +83,8 @@ def check_private_folder(place):
     if about.st_uid != os.geteuid():
         raise Refused(f"nothing was done: {place.path} belongs to another account: name an outbox of your own")
     if about.st_mode & 0o077:
-        told = f"nothing was done: other accounts may enter {place.path}, which shows who voted how"
-        raise Refused(f"{told}: chmod 700 it")
+        message = f"nothing was done: other accounts may enter {place.path}, which shows who voted how"
+        raise Refused(f"{message}: chmod 700 it")
     names = place.names()
     if names and WRITTEN not in names:
         raise Refused(f"nothing was done: {place.path} is not empty, and is not an outbox: name a new folder")

@@ -21,10 +21,10 @@ def when(arrival, *more):
     """When a mail arrived, by what that is known, what the voter says, and from whom it is. No signature is checked,
     and a From is what its sender wrote there, so it stands at the end."""
     date, sender = arrival.mail.date(), arrival.mail.sender_text()
-    told = [f"arrived {date_of(arrival.moment)}, {arrival.by.value}"]
-    told += [f"dated {date_of(date)}"] if date is not None else []
-    told += ["signature not checked" if arrival.is_signed else "unsigned"] if arrival.is_signed is not None else []
-    return "; ".join([*told, *more, *([f"From: {shown(sender)}"] if sender else [])])
+    facts = [f"arrived {date_of(arrival.moment)}, {arrival.by.value}"]
+    facts += [f"dated {date_of(date)}"] if date is not None else []
+    facts += ["signature not checked" if arrival.is_signed else "unsigned"] if arrival.is_signed is not None else []
+    return "; ".join([*facts, *more, *([f"From: {shown(sender)}"] if sender else [])])
 
 
 def heading(text, ballots):
@@ -40,25 +40,25 @@ class Table:
         self.advice = ADVICE if host else [*ADVICE, HOST_ADVICE]
 
     def text(self, strays):
-        lines = [self.form.title, "", *lines_of_strays(strays), *self.told_before()]
-        for case in Standing:
-            new = [each for each in self.batch.ballots if each.case is case and not each.is_told]
+        lines = [self.form.title, "", *lines_of_strays(strays), *self.answered_before()]
+        for standing in Standing:
+            new = [each for each in self.batch.ballots if each.standing is standing and not each.is_reported]
             if new:
-                lines.append(heading(case.value, new))
-                lines += self.advice if case is Standing.UNDECIDED else []
+                lines.append(heading(standing.value, new))
+                lines += self.advice if standing is Standing.UNDECIDED else []
                 for each in new:
                     lines += self.lines_of(each)
         return "\n".join([*lines, "", ""])
 
-    def told_before(self):
+    def answered_before(self):
         """How many ballots were answered before, and of these what was refused or is not as it was."""
-        if before := [each for each in self.batch.ballots if each.is_told]:
-            cases = Counter(each.case for each in before)
-            told = f"{cases[Standing.COUNTED]} entered, {cases[Standing.REFUSED]} refused"
-            told += f", {cases[Standing.REPLACED]} replaced"
+        if before := [each for each in self.batch.ballots if each.is_reported]:
+            counts = Counter(each.standing for each in before)
+            message = f"{counts[Standing.COUNTED]} entered, {counts[Standing.REFUSED]} refused"
+            message += f", {counts[Standing.REPLACED]} replaced"
             places = f"the journal is {self.places[0]}, and the mails went to {self.places[1]}"
-            yield f"{heading('answered before', before)}, {told}; {places}"
-            refused = (each for each in before if each.case is Standing.REFUSED)
+            yield f"{heading('answered before', before)}, {message}; {places}"
+            refused = (each for each in before if each.standing is Standing.REFUSED)
             yield from (self.line_of(each, why_refused(each.why)) for each in refused)
         if moved := [each for each in self.batch.ballots if each.is_moved]:
             yield f"{heading('came before, and the file has another time now', moved)}; the time in the journal counts"
@@ -70,17 +70,17 @@ class Table:
 
     def lines_of(self, ballot):
         """What is reported of a ballot: of one that is entered no more than whose it is."""
-        if ballot.case in (Standing.COUNTED, Standing.REPLACED):
+        if ballot.standing in (Standing.COUNTED, Standing.REPLACED):
             yield self.line_of(ballot, when(ballot.arrival))
             return
         yield self.line_of(ballot)
-        is_sent = ballot.case in SENT
+        is_sent = ballot.standing in SENT
         yield f"        {when(ballot.arrival, *(['votes again'] if ballot.votes_again and is_sent else []))}"
         if is_sent:
             yield from (f"        {line}" for line in self.form.filled(ballot.ranks))
         elif ballot.why:
             yield f"        {why_refused(ballot.why)}"
-        if ballot.case in LEFT:
+        if ballot.standing in LEFT:
             yield from self.lines_to_type(ballot)
 
     def lines_to_type(self, ballot):
@@ -95,12 +95,12 @@ class Table:
 
     def unanswered(self, is_written=True):
         """The voters to whom there is no answer yet, and that answers are missing if they could not be written."""
-        left = [(each.login, each.case) for each in self.batch.ballots if each.case in UNANSWERED]
+        left = [(each.login, each.standing) for each in self.batch.ballots if each.standing in UNANSWERED]
         left += [(login, Standing.GONE) for login in self.batch.gone()]
         unwritten = "" if is_written else UNWRITTEN
         if not left:
             return unwritten or "Every voter has an answer\n"
-        lines = (f"    {self.name_of(login)}: {case.value}" for login, case in dict.fromkeys(left))
+        lines = (f"    {self.name_of(login)}: {standing.value}" for login, standing in dict.fromkeys(left))
         return "\n".join(["Without an answer:", *lines, unwritten])
 
 
@@ -122,9 +122,9 @@ def summary(sent, numbers, journal):
     """What came of the ballots that were sent, with their numbers in the journal."""
     if not sent:
         return "There was no vote to send\n"
-    cases = Counter(each.case for each in sent)
-    told = f"{counted(cases[Standing.COUNTED], 'vote')} of {len(sent)} entered, {cases[Standing.REFUSED]} refused"
+    counts = Counter(each.standing for each in sent)
+    message = f"{counted(counts[Standing.COUNTED], 'vote')} of {len(sent)} entered, {counts[Standing.REFUSED]} refused"
     if not numbers:
-        return f"{told}\n"
+        return f"{message}\n"
     span = numbers[0] if len(numbers) == 1 else f"{numbers[0]} to {numbers[-1]}, in the order of the table"
-    return f"{told}; in {journal} as {span}\n"
+    return f"{message}; in {journal} as {span}\n"

@@ -47,10 +47,10 @@ class Submission:
                 raise stopped(ballots, done, error) from None
             if answer.status == 503:
                 raise Failed(self.fault(ballot, answer))
-            if ballot.case is Standing.PASSING:
-                told = f"nothing more was sent: the desk refused the vote of {ballot.login}"
+            if ballot.standing is Standing.PASSING:
+                message = f"nothing more was sent: the desk refused the vote of {ballot.login}"
                 mail = shown(ballot.arrival.mail.name)
-                raise Refused(f"{told} ({mail}) for now. {remedy(ballot.why, is_port=self.desk is None)}")
+                raise Refused(f"{message} ({mail}) for now. {remedy(ballot.why, is_port=self.desk is None)}")
             if answer.status == 200:
                 accepted = accepted and accepted + 1
         tell_progress(len(ballots), len(ballots))
@@ -59,35 +59,35 @@ class Submission:
         """What is said of a fault of the desk: at whose vote, that its disk is full if it is, and what to do."""
         path = self.desk.path if self.desk else self.journal.entries.desk
         full = path and why_no_room(path)
-        told = f"the desk failed at the vote of {ballot.login} ({shown(ballot.arrival.mail.name)})"
-        told = f"{told}, by {answer.body.decode(errors='replace').strip()}"
+        message = f"the desk failed at the vote of {ballot.login} ({shown(ballot.arrival.mail.name)})"
+        message = f"{message}, by {answer.body.decode(errors='replace').strip()}"
         first = f": {full}. Make room there, and then" if full else ";"
-        return f"{told}{first} run this again. Nothing is lost"
+        return f"{message}{first} run this again. Nothing is lost"
 
     def enter(self, ballot, moment, accepted):
         """Sends a ballot to the file of the desk."""
         act, number = ballot.act(self.batch.number), self.journal.entries.next_number(is_vote=True)
         answer = enter_kept(self.journal, self.desk, act, moment, accepted, ballot.arrival.source)
-        self.found(ballot, number, answer)
+        self.take_answer(ballot, number, answer)
         return answer
 
     def hand_in(self, ballot):
         """Sends a ballot to the port."""
-        if ballot.case is Standing.DOUBTFUL:
+        if ballot.standing is Standing.DOUBTFUL:
             note(f"the vote of {ballot.login} is sent again with the same token; `Received` may be one higher for it")
         act, number = ballot.act(self.batch.number), self.journal.entries.next_number(is_vote=True)
         answer, lacked_acts = send_kept(self.journal, self.address, act, int(time.time()), ballot.arrival.source)
-        self.found(ballot, number, answer)
+        self.take_answer(ballot, number, answer)
         if lacked_acts:
             raise Refused(f"nothing more was sent: the desk lacked acts when it took the vote of {ballot.login}")
         return answer
 
-    def found(self, ballot, number, answer):
+    def take_answer(self, ballot, number, answer):
         """Puts what the answer to the act of this number in the journal says of a ballot."""
         ballot.entry = self.journal.entries.all[number]
         line = answer.body.decode(errors="replace")
         if answer.status == 200:
-            ballot.case = Standing.COUNTED
+            ballot.standing = Standing.COUNTED
         elif answer.status != 503:
             ballot.put(Standing.REFUSED if self.batch.is_final(ballot, line) else Standing.PASSING, line)
 
@@ -97,9 +97,9 @@ def stopped(ballots, done, error):
     if done == 0:
         return error
     count, following = len(ballots), ballots[done]
-    told = f"{counted(done, 'vote')} of {count} {'was' if done == 1 else 'were'} sent, and no more: {error.why}"
+    message = f"{counted(done, 'vote')} of {count} {'was' if done == 1 else 'were'} sent, and no more: {error.why}"
     whose = f"the next one is that of {following.login} ({shown(following.arrival.mail.name)})"
-    return Failed(f"{told}; {whose}. Nothing is lost: mend that, and run this again, which sends the rest")
+    return Failed(f"{message}; {whose}. Nothing is lost: mend that, and run this again, which sends the rest")
 
 
 def tell_progress(done, count):

@@ -49,5 +49,5 @@ def warn_of_writable(folder):
     if places := writable_by_all(folder):
         named = ", ".join(map(shown, places[:MOST_NAMED]))
         more = f" and {counted(len(places) - MOST_NAMED, 'other place')}" if len(places) > MOST_NAMED else ""
-        told = f"warning: the mode lets every account of this machine write to {named}{more}"
-        note(f"{told}. A ballot there may be a stranger's: chmod o-w, and check the signatures of its mails again")
+        message = f"warning: the mode lets every account of this machine write to {named}{more}"
+        note(f"{message}. A ballot there may be a stranger's: chmod o-w, and check the signatures of its mails again")

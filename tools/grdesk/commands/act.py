@@ -3,7 +3,7 @@ import getpass
 import sys
 
 from grdesk.acts.act import ACTS, EXITS, NUMBER, ROLL, SECRET, Act
-from grdesk.acts.explanation import Explained, rank_lines
+from grdesk.acts.explanation import Explanation, rank_lines
 from grdesk.acts.moment import duration
 from grdesk.dates import moment_number
 from grdesk.desk.address import add_address
@@ -44,8 +44,8 @@ def fields_of(name, words):
     for word in words:
         field, equals, value = word.partition("=")
         if name == "vote" and field in SECRET:
-            told = f"{field}= is secret, and every account can read the words of a process"
-            raise Wrong(f"{told}: give it on standard input")
+            message = f"{field}= is secret, and every account can read the words of a process"
+            raise Wrong(f"{message}: give it on standard input")
         if name == "vote" and (not equals or field not in wanted):
             # It may be the ranks or the token, which are printed nowhere.
             raise Wrong("a vote takes only R and login= as words, and reads ranks and token from standard input")
@@ -80,9 +80,9 @@ def checked(text, why):
     return text
 
 
-def ballot():
+def read_ballot():
     """The ranks and the token, from standard input, and whether the token was made here."""
-    lines = asked() if is_at_terminal() else given()
+    lines = lines_from_terminal() if is_at_terminal() else lines_from_input()
     ranks = lines[0] if lines else b""
     if not ranks:
         raise Wrong("standard input has no ranks; its first line needs a character for each place")
@@ -94,7 +94,7 @@ def ballot():
     return ranks, token or new_token().encode(), not token
 
 
-def asked():
+def lines_from_terminal():
     """The two lines, of one who sits at a terminal. The token is not shown."""
     print("Ranks, a character for each place, None of the above last: ", end="", file=sys.stderr, flush=True)
     try:
@@ -107,7 +107,7 @@ def asked():
     return [bytes_of(ranks), bytes_of(token)]
 
 
-def given():
+def lines_from_input():
     text = read_input(MOST_OF_A_VOTE + 1)
     if len(text) > MOST_OF_A_VOTE:
         raise Wrong("standard input has more than the ranks and a token")
@@ -124,7 +124,7 @@ def read_input(most):
         raise Wrong(f"standard input cannot be read: {error.strerror}") from None
 
 
-def in_words(ranks):
+def rank_text(ranks):
     """The rank of each place, in words."""
     text = ranks.decode()
     return "".join(f"{line}\n" for line in rank_lines(text, {len(text): DEFAULT_OPTION})).encode()
@@ -225,31 +225,31 @@ def parser():
     return command
 
 
-def run(words):
+def run(arguments):
     """Does what the words ask for, and gives the exit status."""
-    name = words.command
-    path, fields = path_of(name, words.rest)
+    name = arguments.command
+    path, fields = path_of(name, arguments.rest)
     values = fields_of(name, fields)
-    check_words(words)
+    check_words(arguments)
     token = b""
     if name == "vote":
-        ranks, given_token, is_made = ballot()
+        ranks, given_token, is_made = read_ballot()
         values |= {"ranks": ranks, "token": given_token}
         token = b"token " + given_token + b"\n" if is_made else b""
     elif name == "import":
         # Of a roll file that is too large so much is sent that the desk sees it.
         values = {ROLL: read_input(MOST_BYTES + 1)}
     sent = Act(path, values)
-    explained = Explained(sent, words)
+    explained = Explanation(sent, arguments)
 
     def announce():
         explained.before()
         say(token)
 
-    answer = deliver(sent, words, announce)
+    answer = deliver(sent, arguments, announce)
     if answer is None:
         explained.waits()
         return 0
-    say(answer.body + (in_words(ranks) if name == "vote" and answer.status == 200 else b""))
+    say(answer.body + (rank_text(ranks) if name == "vote" and answer.status == 200 else b""))
     explained.after(answer)
     return EXITS[answer.status]

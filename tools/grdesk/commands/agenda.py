@@ -197,9 +197,9 @@ def moments_of(status):
         yield choice.short or 0
 
 
-def clock_warning(at, is_given, clock, is_told):
+def clock_warning(at, is_given, clock, is_exact):
     """What is said of a moment that is before the desk's clock, or before what is known of it."""
-    return late_clock(counted(clock - at, "second") + ("" if is_told else " or more"), is_given)
+    return late_clock(counted(clock - at, "second") + ("" if is_exact else " or more"), is_given)
 
 
 def casting_of(desk, status):
@@ -232,10 +232,10 @@ def parser():
     return command
 
 
-def run(words):
-    at = int(time.time()) if words.at is None else words.at
-    entries = entries_of(words)
-    with sheets_of(words) as desk:
+def run(arguments):
+    at = int(time.time()) if arguments.at is None else arguments.at
+    entries = entries_of(arguments)
+    with sheets_of(arguments) as desk:
         developers = sum(developer.is_current for developer in roll_of(desk.sheet("roll")))
         made, resolutions = Agenda(at, developers), 0
         for status in statuses_of(desk):
@@ -247,8 +247,8 @@ def run(words):
             made.hold(entries, header)
         text = made.text(developers, resolutions, clock)
         if isinstance(desk, ServedSheets):
-            text += f"\n{desk.asked} sheets were asked for, each by a connection of `serve`\n"
+            text += f"\n{desk.requests} sheets were asked for, each by a connection of `serve`\n"
     say(text.encode())
     if EARLIEST <= at < clock:
-        note(f"warning: {clock_warning(at, words.at is not None, clock, header is not None)}")
-    return DUE if words.due and made.due(clock) else 0
+        note(f"warning: {clock_warning(at, arguments.at is not None, clock, header is not None)}")
+    return DUE if arguments.due and made.due(clock) else 0

@@ -63,8 +63,8 @@ def parser():
     return command
 
 
-def run(words):
-    lines = [f"{words.unit} failed", f"journalctl -u {words.unit} says why"]
+def run(arguments):
+    lines = [f"{arguments.unit} failed", f"journalctl -u {arguments.unit} says why"]
     note("; ".join(lines))
-    send(mail_of(words.unit, lines))
+    send(mail_of(arguments.unit, lines))
     return 0

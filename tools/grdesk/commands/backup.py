@@ -88,15 +88,15 @@ def parser():
     return command
 
 
-def run(words):
-    if words.keep and words.thin:
+def run(arguments):
+    if arguments.keep and arguments.thin:
         raise Wrong("--keep and --thin are given: give only one of them")
-    base = base_of(words.desk)
-    if words.thin:
-        copied = copy_where_changed(words.desk, words.to, base)
+    base = base_of(arguments.desk)
+    if arguments.thin:
+        copied = copy_where_changed(arguments.desk, arguments.to, base)
     else:
-        copied = copy_to_place(words.desk, words.to, base, words.keep)
-    if words.verbose:
+        copied = copy_to_place(arguments.desk, arguments.to, base, arguments.keep)
+    if arguments.verbose:
         note(f"copied at try {copied.tries}; the log began anew in {copied.begun_anew}")
     say(b"ok\n")
     return 0

@@ -4,7 +4,7 @@ import os
 from grdesk.acts.resolution import DESK_AND_R, status_in, take_desk
 from grdesk.ballots.call import call_of
 from grdesk.ballots.form import form_of, forms_of_others
-from grdesk.ballots.form_reader import read
+from grdesk.ballots.form_reader import read_form
 from grdesk.ballots.mail import mails_at
 from grdesk.desk.address import add_address
 from grdesk.desk.sheet import roll_of, sheets_of
@@ -13,26 +13,26 @@ from grdesk.parser import ADDRESS, COPIES, Parser
 from grdesk.stop import Failed, NotRead, Refused, Wrong
 
 
-def write_form(words, _):
-    with sheets_of(words) as desk:
-        form = form_of(status_in(desk, words.resolution))
+def write_form(arguments, _):
+    with sheets_of(arguments) as desk:
+        form = form_of(status_in(desk, arguments.resolution))
     say(form.text().encode())
     return 0
 
 
-def write_call(words, _):
-    with sheets_of(words) as desk:
-        status = status_in(desk, words.resolution)
+def write_call(arguments, _):
+    with sheets_of(arguments) as desk:
+        status = status_in(desk, arguments.resolution)
         form = form_of(status)
         text = call_of(status, form, roll_of(desk.sheet("roll")))
     say(text.encode())
     return 0
 
 
-def read_files(words, names):
-    with sheets_of(words) as desk:
-        form = form_of(status_in(desk, words.resolution))
-        others = forms_of_others(desk, desk.rows(), words.resolution)
+def read_files(arguments, names):
+    with sheets_of(arguments) as desk:
+        form = form_of(status_in(desk, arguments.resolution))
+        others = forms_of_others(desk, desk.rows(), arguments.resolution)
     mails, passed = [], []
     for name in names:
         # The words may name a link, since they are no stranger's.
@@ -50,7 +50,7 @@ def read_files(words, names):
     refused = len(passed)
     for mail in mails:
         try:
-            line = f"ok {read(form, mail.written().text, others).ranks}"
+            line = f"ok {read_form(form, mail.written().text, others).ranks}"
         except NotRead as why:
             line = f"refused {why}"
             refused += 1
@@ -92,12 +92,12 @@ def parser():
     return command
 
 
-def run(words):
-    if words.command not in COMMANDS:
-        raise Wrong(f"there is no command {words.command or ''!r}; they are {', '.join(COMMANDS)}")
-    command, has_files = COMMANDS[words.command]
-    rest = take_desk(words, words.rest)
+def run(arguments):
+    if arguments.command not in COMMANDS:
+        raise Wrong(f"there is no command {arguments.command or ''!r}; they are {', '.join(COMMANDS)}")
+    command, has_files = COMMANDS[arguments.command]
+    rest = take_desk(arguments, arguments.rest)
     if bool(rest) != has_files:
-        told = "needs the name of a FILE after R" if has_files else f"has a word too many: {rest[0]!r}"
-        raise Wrong(f"{words.command} {told}; gr-desk ballot --help says more")
-    return command(words, rest)
+        message = "needs the name of a FILE after R" if has_files else f"has a word too many: {rest[0]!r}"
+        raise Wrong(f"{arguments.command} {message}; gr-desk ballot --help says more")
+    return command(arguments, rest)

@@ -25,8 +25,8 @@ def header_of(desk):
     """The header of a desk. A bit that turned may make its clock a moment that no desk has."""
     header = read_from(header_in, desk_at(desk), desk)
     if not 0 <= header.clock <= MOST_SECONDS:
-        told = f"the clock of {desk} is no moment that an act has, as if a bit had turned"
-        raise Failed(f"{told}: gr-desk journal check finds such bits")
+        message = f"the clock of {desk} is no moment that an act has, as if a bit had turned"
+        raise Failed(f"{message}: gr-desk journal check finds such bits")
     return header
 
 
@@ -36,17 +36,17 @@ def line(what, at):
 
 def warnings(desk, machine, at):
     """What is wrong with these moments, of a desk and where one is given."""
-    told = []
+    found = []
     if desk > machine:
-        told.append(late_clock(counted(desk - machine, "second"), is_given=False))
+        found.append(late_clock(counted(desk - machine, "second"), is_given=False))
     if at is not None and at > machine:
-        told.append(
-            f"--at lies {counted(at - machine, 'second')} past the machine's clock: after an act at that moment, each act"
-            " without --at is refused 2 ClockBack until then"
+        found.append(
+            f"--at lies {counted(at - machine, 'second')} past the machine's clock: after an act at that moment, each"
+            " act without --at is refused 2 ClockBack until then"
         )
     if at is not None and desk > at:
-        told.append(late_clock(counted(desk - at, "second"), is_given=True))
-    return told
+        found.append(late_clock(counted(desk - at, "second"), is_given=True))
+    return found
 
 
 def parser():
@@ -69,18 +69,18 @@ def parser():
     return command
 
 
-def run(words):
-    at = words.at
-    is_there = is_something(words.desk)
-    header = header_of(words.desk) if is_there else Header(0, 0)
-    journal = lacking(words, header.accepted) if is_there else None
+def run(arguments):
+    at = arguments.at
+    is_there = is_something(arguments.desk)
+    header = header_of(arguments.desk) if is_there else Header(0, 0)
+    journal = lacking(arguments, header.accepted) if is_there else None
     desk, machine = header.clock, int(time.time())
     no_clock = "desk     no act yet\n" if is_there else "desk     not there yet\n"
     text = (line("desk", desk) if desk else no_clock) + line("machine", machine)
     say((text + (line("--at", at) if at is not None else "")).encode())
-    told = warnings(desk, machine, at)
+    found = warnings(desk, machine, at)
     if journal is not None:
-        told.append(f"{words.desk} lacks acts that {journal} has: gr-desk journal replay enters them")
-    for warning in told:
+        found.append(f"{arguments.desk} lacks acts that {journal} has: gr-desk journal replay enters them")
+    for warning in found:
         note(f"warning: {warning}")
-    return 1 if told else 0
+    return 1 if found else 0

@@ -6,7 +6,7 @@ import time
 from contextlib import suppress
 
 from grdesk.desk.change import is_whole
-from grdesk.desk.copy import folder_outside, odd_part, parts_of, private_folder
+from grdesk.desk.copy import folder_outside, odd_part, parts_at, private_folder
 from grdesk.desk.retention import base_of, copies_until
 from grdesk.output import say
 from grdesk.parser import COPIES, Parser
@@ -30,7 +30,7 @@ class PaddedStream:
         self.write(bytes(-self.length % WHOLE))
 
 
-def asked(name):
+def setting(name):
     """What the environment says."""
     text = os.environ.get(name)
     if not text:
@@ -89,7 +89,7 @@ def encrypt(copy, line, target):
 def pack(copy, stream):
     filled = PaddedStream(stream)
     with tarfile.open(fileobj=filled, mode="w|") as packed:
-        for part in sorted(parts_of(copy)):
+        for part in sorted(parts_at(copy)):
             packed.add(part, os.path.basename(part))
     filled.fill()
     stream.close()
@@ -97,7 +97,7 @@ def pack(copy, stream):
 
 def room_for(copy):
     """How many bytes the parts of a copy take at most, as one file that is encrypted."""
-    return WHOLE * (2 + sum(map(os.path.getsize, parts_of(copy))) // WHOLE)
+    return WHOLE * (2 + sum(map(os.path.getsize, parts_at(copy))) // WHOLE)
 
 
 def send(line, path):
@@ -127,9 +127,9 @@ def parser():
     return command
 
 
-def run(words):
-    key, line = asked("COPY_KEY"), asked("COPY_TO")
-    base, copy = newest_copy(words.desk, words.folder)
+def run(arguments):
+    key, line = setting("COPY_KEY"), setting("COPY_TO")
+    base, copy = newest_copy(arguments.desk, arguments.folder)
     hour = time.strftime("%Y%m%dT%HZ", time.gmtime(time.time()))
     with private_folder() as home, private_folder(room=room_for(copy)) as folder:
         ending, encrypts = encryption(key, str(home))

@@ -53,23 +53,23 @@ def about_copies(copy, header, folder, base, now):
         yield f"the desk has changed, and {folder} has no copy of the last hour"
 
 
-def wrong(words, address):
+def wrong(arguments, address):
     """What is wrong, a line for each."""
-    file = desk_at(words.desk)
-    folder = words.copies or os.path.join(os.path.dirname(file), "backups")
+    file = desk_at(arguments.desk)
+    folder = arguments.copies or os.path.join(os.path.dirname(file), "backups")
     yield from about_answer(address)
     yield from about_room(os.path.dirname(file), folder)
     with private_folder() as work:
         copy = str(work / "desk")
         copy_desk(file, copy)
-        header = header_in(copy, words.desk)
+        header = header_in(copy, arguments.desk)
         # An act may have come up to here.
         now = time.time()
         if header.clock > now:
             # By such a clock no copy has an age.
             yield "the machine's clock is behind the desk's, which refuses each act until then"
         else:
-            yield from about_copies(copy, header, folder, base_of(words.desk), now)
+            yield from about_copies(copy, header, folder, base_of(arguments.desk), now)
 
 
 def parser():

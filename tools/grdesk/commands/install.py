@@ -109,12 +109,12 @@ def lay_units(prefix, work):
         lay(made, prefix / "systemd" / unit.name, 0o644)
 
 
-def run(words):
+def run(arguments):
     # Every account that may enter the folder can run what is installed.
     os.umask(0o022)
-    prefix = place_of(words.prefix)
+    prefix = place_of(arguments.prefix)
     build()
-    make_folders(prefix, words.prefix)
+    make_folders(prefix, arguments.prefix)
     lay(BUILT, prefix / "gr_desk", 0o755)
     for name in files():
         (prefix / name).parent.mkdir(parents=True, exist_ok=True)

@@ -5,7 +5,7 @@ from grdesk.acts.act import NUMBER
 from grdesk.desk.copy import copy_desk, private_folder
 from grdesk.desk.file import DeskFile
 from grdesk.desk.row import accepted_in, header_in, rows_in
-from grdesk.journal.check import check_desk
+from grdesk.journal.check import print_differences
 from grdesk.journal.entry import NUMBER_AT_DESK, OF_AN_ENTRY
 from grdesk.journal.hold import enter_due, take_back
 from grdesk.journal.journal import NO_JOURNAL, journal_at, journal_name
@@ -13,34 +13,34 @@ from grdesk.journal.open_act import keep_accepted, say_settled
 from grdesk.journal.prefix import Comparison, taken_of
 from grdesk.journal.replay import Replay, close_by_roll, lacks_of, read_closed, steps_after, take_place
 from grdesk.journal.source import source_of
-from grdesk.journal.timeline import Listing, moment_text, running
+from grdesk.journal.timeline import Listing, moment_text, running_votes
 from grdesk.output import counted, note, say, say_line, shown
 from grdesk.parser import COPIES, JOURNAL, Parser
 from grdesk.stop import Refused, Wrong
 
 
-def named(words):
+def named(arguments):
     """The journal that is meant where none stands among the words."""
-    name = journal_name(words)
+    name = journal_name(arguments)
     if name is None:
         raise Wrong(NO_JOURNAL)
     return name
 
 
-def journal_and_desk(words):
+def journal_and_desk(arguments):
     """The names of the two, of which the first may be left out."""
-    if words.journal_first is None:
-        return named(words), words.desk
-    if words.journal is not None:
+    if arguments.journal_first is None:
+        return named(arguments), arguments.desk
+    if arguments.journal is not None:
         raise Wrong("a JOURNAL and a --journal are given: one of them says which journal")
-    return words.journal_first, words.desk
+    return arguments.journal_first, arguments.desk
 
 
-def list_acts(words):
-    resolution = words.resolution
+def list_acts(arguments):
+    resolution = arguments.resolution
     if resolution is not None and not NUMBER.fullmatch(resolution):
         raise Wrong(f"the number of a resolution is like 1 or 12, and not {resolution!r}")
-    with journal_at(named(words), is_read=True) as journal:
+    with journal_at(named(arguments), is_read=True) as journal:
         entries = journal.entries
     if resolution is not None and resolution not in {entry.resolution for entry in entries.all.values()}:
         raise Refused(f"{journal.name} has no act on resolution {resolution}")
@@ -52,27 +52,27 @@ def list_acts(words):
 # Replays.
 
 
-def replay(words):
-    name, desk = journal_and_desk(words)
+def replay(arguments):
+    name, desk = journal_and_desk(arguments)
     desk = DeskFile(desk)
     with journal_at(name) as journal, private_folder(os.path.dirname(desk.path)) as folder:
         desk.check_free()
         copy = working_copy(desk, folder)
         found = read_closed(rows_in, copy, desk.name)
         check_has_more(journal, desk, found)
-        settle_by_prefix(journal, desk, found, words)
-        steps = steps_after(journal.entries, accepted_in(found), words.without)
+        settle_by_prefix(journal, desk, found, arguments)
+        steps = steps_after(journal.entries, accepted_in(found), arguments.without)
         done = Replay(copy, journal.entries)
         for step in steps:
             done.enter(step)
         home = journal.entries.desk
         is_at_home = home in (None, desk.path)
-        if not words.dry_run and (steps or words.without or not is_at_home):
+        if not arguments.dry_run and (steps or arguments.without or not is_at_home):
             count = read_closed(header_in, copy, desk.name).accepted
-            take_place(copy, desk, journal, words.without, done.answers, count)
+            take_place(copy, desk, journal, arguments.without, done.answers, count)
             if not is_at_home:
                 note(f"from now on {name} is the journal of {desk.path}, and no longer of {home}")
-    tell_entered(journal.entries, steps, done.answers, words.dry_run)
+    tell_entered(journal.entries, steps, done.answers, arguments.dry_run)
     say(b"ok\n")
     return 0
 
@@ -81,22 +81,22 @@ def check_has_more(journal, desk, found):
     """Refuses a desk that has more acts than the journal. Under another name it may be another desk."""
     lacks = lacks_of(journal, desk.name, found)
     if lacks and journal.entries.desk not in (None, desk.path):
-        told = "nothing was entered: this is not where the desk of the journal was"
-        raise Refused(f"{told}, and it has more acts than the journal, so it may be another desk")
+        message = "nothing was entered: this is not where the desk of the journal was"
+        raise Refused(f"{message}, and it has more acts than the journal, so it may be another desk")
     if lacks:
         raise Refused(f"nothing was entered: {lacks}")
 
 
-def settle_by_prefix(journal, desk, found, words):
+def settle_by_prefix(journal, desk, found, arguments):
     """Refuses a desk whose rows are not those of the first acts of the journal. Keeps which open acts are among these.
     """
-    if words.from_copy and not journal.entries.missing(0, min(accepted_in(found), journal.entries.last)):
-        told = f"nothing was entered: {journal.name} has all acts from the first on"
-        raise Refused(f"{told}, so {desk.name} is compared with these: leave out --from")
+    if arguments.from_copy and not journal.entries.missing(0, min(accepted_in(found), journal.entries.last)):
+        message = f"nothing was entered: {journal.name} has all acts from the first on"
+        raise Refused(f"{message}, so {desk.name} is compared with these: leave out --from")
     with private_folder() as folder:
-        comparison = Comparison.begin(journal.entries, found, folder, words.from_copy)
-        taken = taken_of(comparison, journal.name, desk.name, words.from_copy)
-    keep_accepted(taken, journal.know if words.dry_run else journal.add)
+        comparison = Comparison.begin(journal.entries, found, folder, arguments.from_copy)
+        taken = taken_of(comparison, journal.name, desk.name, arguments.from_copy)
+    keep_accepted(taken, journal.know if arguments.dry_run else journal.add)
 
 
 def working_copy(desk, folder):
@@ -115,7 +115,7 @@ def tell_entered(entries, steps, answers, is_dry):
             say_line(f"{verb} {step.entry.number}: {moment_text(step.entry)}  {step.entry.words()}")
     votes = sum(step.entry.is_vote for step in steps)
     if votes:
-        say_line(f"{verb} {'the votes between' if is_dry or running(entries) else counted(votes, 'vote')}")
+        say_line(f"{verb} {'the votes between' if is_dry or running_votes(entries) else counted(votes, 'vote')}")
     for number, text in answers.items():
         answer = "as votes are" if entries.all[number].is_vote and text.startswith("ok ") else f"`{text.strip()}`"
         note(f"the journal had no answer to {number}: it is entered now, and answered {answer}")
@@ -126,14 +126,14 @@ def tell_entered(entries, steps, answers, is_dry):
 # Open acts.
 
 
-def settle(words):
-    number, said = words.number, words.said
+def settle(arguments):
+    number, said = arguments.number, arguments.said
     if said not in ("accepted", "refused"):
         raise Wrong(f"say that {number} was accepted or refused, and not {said!r}")
-    if said == "refused" and words.count is not None:
+    if said == "refused" and arguments.count is not None:
         raise Wrong("--as goes with accepted: an act that was refused has no number")
-    with journal_at(named(words)) as journal:
-        say_settled(journal, number, said == "accepted", words.count)
+    with journal_at(named(arguments)) as journal:
+        say_settled(journal, number, said == "accepted", arguments.count)
     say(b"ok\n")
     return 0
 
@@ -141,24 +141,24 @@ def settle(words):
 # Checks.
 
 
-def check(words):
-    name, desk = journal_and_desk(words)
+def check(arguments):
+    name, desk = journal_and_desk(arguments)
     with private_folder() as folder, journal_at(name, is_read=True) as journal:
-        return check_desk(journal, desk, words.from_copy, folder)
+        return print_differences(journal, desk, arguments.from_copy, folder)
 
 
 # Held acts.
 
 
-def due(words):
-    with journal_at(named(words)) as journal:
-        return enter_due(journal, words.yes)
+def due(arguments):
+    with journal_at(named(arguments)) as journal:
+        return enter_due(journal, arguments.yes)
 
 
-def drop(words):
-    source = source_of(words.source)
-    with journal_at(named(words)) as journal:
-        take_back(journal, words.number, source)
+def drop(arguments):
+    source = source_of(arguments.source)
+    with journal_at(named(arguments)) as journal:
+        take_back(journal, arguments.number, source)
     return 0
 
 
@@ -253,5 +253,5 @@ def add_journal_and_desk(parser):
     parser.add_argument("--from", metavar="COPY", dest="from_copy", help=what)
 
 
-def run(words):
-    return COMMANDS[words.command](words)
+def run(arguments):
+    return COMMANDS[arguments.command](arguments)

@@ -31,16 +31,16 @@ def made():
     return files | {"completion/gr-desk": completion(program[1:], examples, tools).encode()}
 
 
-def run(words):
+def run(arguments):
     files = made()
     try:
         for name, text in files.items():
-            path = Path(words.folder) / name
+            path = Path(arguments.folder) / name
             path.parent.mkdir(parents=True, exist_ok=True)
             with Folder(os.path.realpath(path.parent), Readers.ALL) as place:
                 place.put(path.name, text)
     except OSError as error:
-        raise Failed(f"{error.filename or words.folder} cannot be written: {error.strerror}") from None
+        raise Failed(f"{error.filename or arguments.folder} cannot be written: {error.strerror}") from None
     return 0
 
 

@@ -61,8 +61,8 @@ def made(data, found, number):
     """The bytes of the package."""
     of_desk = Program(data)
     entries = [*contents(made_pages()), *papers(number, found.author, found.moment, found.date[:4])]
-    told = control_files(entries, of_desk, number, found.author)
-    return package(tarball(told, found.moment), tarball(entries, found.moment), found.moment)
+    control = control_files(entries, of_desk, number, found.author)
+    return package(tarball(control, found.moment), tarball(entries, found.moment), found.moment)
 
 
 def beside(name, deb, data, found):
@@ -76,8 +76,8 @@ def beside(name, deb, data, found):
 """
 
 
-def run(words):
-    folder, data, found, number = Path(words.folder), built(), commit(), version()
+def run(arguments):
+    folder, data, found, number = Path(arguments.folder), built(), commit(), version()
     deb = made(data, found, number)
     name = f"{NAME}_{number}_{Program(data).architecture}.deb"
     text = beside(name, deb, data, found)

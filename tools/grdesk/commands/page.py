@@ -40,15 +40,15 @@ def parser():
     return command
 
 
-def journal_entries(words):
+def journal_entries(arguments):
     """The acts of the journal that the words name. That of GR_DESK_JOURNAL is not looked at: a page is for others."""
-    if words.journal is None:
+    if arguments.journal is None:
         return None
-    with journal_at(words.journal, is_read=True) as journal:
+    with journal_at(arguments.journal, is_read=True) as journal:
         entries = journal.entries
     # By a port it is not known which file the desk has.
-    if words.desk is not None and entries.desk not in (None, desk_at(words.desk)):
-        raise Refused(f"{words.journal} is the journal of the desk {entries.desk}, and not of {words.desk}")
+    if arguments.desk is not None and entries.desk not in (None, desk_at(arguments.desk)):
+        raise Refused(f"{arguments.journal} is the journal of the desk {entries.desk}, and not of {arguments.desk}")
     return entries
 
 
@@ -57,26 +57,26 @@ def check_rest(rest):
         raise Wrong(f"there is a word too many: {rest[0]!r}; gr-desk page --help says more")
 
 
-def check_voters(words):
+def check_voters(arguments):
     """Refuses to list voters on a page, and by a port, where it is not known who voted."""
-    if words.voters and words.all is None:
+    if arguments.voters and arguments.all is None:
         raise Wrong("--voters needs --all FOLDER; gr-desk voters prints the list of one resolution")
-    if words.voters and words.desk is None:
+    if arguments.voters and arguments.desk is None:
         raise Wrong("--voters needs DESK: by a port it is not known who voted")
 
 
-def run(words):
-    at = int(time.time()) if words.at is None else words.at
-    if words.all is None:
-        check_rest(take_desk(words, words.rest))
+def run(arguments):
+    at = int(time.time()) if arguments.at is None else arguments.at
+    if arguments.all is None:
+        check_rest(take_desk(arguments, arguments.rest))
     else:
-        words.desk = words.rest[0] if words.rest else None
-        check_rest(words.rest[1:])
-    check_voters(words)
-    entries = journal_entries(words)
-    with sheets_of(words) as desk:
+        arguments.desk = arguments.rest[0] if arguments.rest else None
+        check_rest(arguments.rest[1:])
+    check_voters(arguments)
+    entries = journal_entries(arguments)
+    with sheets_of(arguments) as desk:
         pages = Pages(desk, at, entries)
-        if words.all is None:
-            say(pages.page(words.resolution).encode())
+        if arguments.all is None:
+            say(pages.page(arguments.resolution).encode())
             return 0
-        return 0 if publish(pages, words.all, words.voters) else 1
+        return 0 if publish(pages, arguments.all, arguments.voters) else 1

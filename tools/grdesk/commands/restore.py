@@ -1,5 +1,5 @@
 """Put a copy of a desk in the place of a desk that is gone"""
-from grdesk.desk.copy import copy_to, desk_at, is_held, is_held_without_name, log_of, new_place
+from grdesk.desk.copy import copy_to, desk_at, is_locked, is_open_without_name, log_of, new_place
 from grdesk.output import say
 from grdesk.parser import Parser
 from grdesk.stop import Refused
@@ -23,12 +23,12 @@ def parser():
     return command
 
 
-def run(words):
-    copy, place = desk_at(words.copy), new_place(words.desk)
-    if is_held(copy):
-        raise Refused(f"{words.copy} is in use")
+def run(arguments):
+    copy, place = desk_at(arguments.copy), new_place(arguments.desk)
+    if is_locked(copy):
+        raise Refused(f"{arguments.copy} is in use")
     for path in place, log_of(place):
-        if is_held_without_name(path):
+        if is_open_without_name(path):
             raise Refused(f"{path} was removed, and is still in use: end that program first")
     copy_to(copy, place, is_backup=False)
     say(b"ok\n")

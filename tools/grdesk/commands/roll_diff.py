@@ -69,9 +69,9 @@ def parser():
     return command
 
 
-def run(words):
-    name = words.roll
-    with sheets_of(words) as desk:
+def run(arguments):
+    name = arguments.roll
+    with sheets_of(arguments) as desk:
         there = logins_in(name)
         roll = roll_of(desk.sheet("roll"))
     current = [developer for developer in roll if developer.is_current]

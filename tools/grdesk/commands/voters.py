@@ -25,10 +25,10 @@ def parser():
     return command
 
 
-def run(words):
-    words.port = words.socket = None
-    with sheets_of(words) as desk:
-        electorate = electorate_of(desk, words.resolution)
+def run(arguments):
+    arguments.port = arguments.socket = None
+    with sheets_of(arguments) as desk:
+        electorate = electorate_of(desk, arguments.resolution)
     say(electorate.text().encode())
     for warning in electorate.warnings():
         note(f"warning: {warning}")

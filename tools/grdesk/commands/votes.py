@@ -27,7 +27,7 @@ from grdesk.desk.sheet import roll_of, sheets_of
 from grdesk.journal.delivery import check_has_all, unsent
 from grdesk.journal.entry import Fate
 from grdesk.journal.journal import NO_JOURNAL, journal_at, journal_name
-from grdesk.journal.open_act import settle
+from grdesk.journal.open_act import settle_open_acts
 from grdesk.output import confirm, counted, is_at_terminal, note, say, shown
 from grdesk.parser import ADDRESS, COPIES, JOURNAL, Parser
 from grdesk.stop import Failed, Refused, Wrong
@@ -58,12 +58,12 @@ class Sheets:
         self.roll = {developer.login: developer for developer in roll_of(desk.sheet("roll"))}
         rows = desk.rows()
         self.others = forms_of_others(desk, rows, number)
-        self.held = rows and ballots_in(rows, number)
+        self.stored = rows and stored_ballots(rows, number)
         self.open_votes = open_votes_in(rows) if rows else {self.form.number: self.form.end}
         self.ends = sorted(self.open_votes.values())
 
 
-def ballots_in(rows, number):
+def stored_ballots(rows, number):
     """The ranks and the receipt of each ballot on a resolution, by login."""
     ballots = rows["ballot2"].items()
     return {login.decode(): (row["ranks"].decode(), row["receipt"].decode())
@@ -75,10 +75,10 @@ def look_at(desk, sheets, journal, now):
     seen = Seen(sheets.header(), sheets.digests())
     journal.check_desk(desk.path)
     if seen.header.clock > now:
-        told = f"nothing was sent: the desk's clock is {dated(seen.header.clock)}, later than the machine's"
-        raise Refused(f"{told}; gr-desk clock {desk.name} says more")
+        message = f"nothing was sent: the desk's clock is {dated(seen.header.clock)}, later than the machine's"
+        raise Refused(f"{message}; gr-desk clock {desk.name} says more")
     check_has_all(journal, desk, seen.header)
-    settle(journal, seen.header, sheets)
+    settle_open_acts(journal, seen.header, sheets)
     return seen
 
 
@@ -86,8 +86,8 @@ def is_same(copy, name, seen):
     """Refuses a desk that has changed since the table was made, by a new copy of it: the question may have waited long.
     What was opened meanwhile may have other bytes, and the same acts."""
     if read_digests(copy) != seen.digests and header_in(copied_again(copy), name) != seen.header:
-        told = f"nothing was sent: {name} got acts after the table was made"
-        raise Changed(f"{told}. Nothing is lost: run this again")
+        message = f"nothing was sent: {name} got acts after the table was made"
+        raise Changed(f"{message}. Nothing is lost: run this again")
     return True
 
 
@@ -98,16 +98,16 @@ def check_has_ballots(desk, journal, number, held):
     lost = [login for login, of_voter in votes
             if login not in held and any(each.fate is Fate.ACCEPTED for each in of_voter)]
     if lost:
-        told = f"nothing was sent: {desk.name} lacks the ballot of {counted(len(lost), 'voter')}"
-        told = f"{told} that {journal.name} has as accepted"
-        raise Refused(f"{told}: gr-desk journal check shows how the two differ")
+        message = f"nothing was sent: {desk.name} lacks the ballot of {counted(len(lost), 'voter')}"
+        message = f"{message} that {journal.name} has as accepted"
+        raise Refused(f"{message}: gr-desk journal check shows how the two differ")
 
 
 def check_none_held(journal):
     held = [entry.number for entry in journal.entries.all.values() if entry.fate is Fate.HELD]
     if held:
-        told = f"nothing was sent: acts are on hold, {', '.join(held)}, and would be lost after later votes"
-        raise Refused(f"{told}: gr-desk journal due enters them, and gr-desk journal drop drops them")
+        message = f"nothing was sent: acts are on hold, {', '.join(held)}, and would be lost after later votes"
+        raise Refused(f"{message}: gr-desk journal due enters them, and gr-desk journal drop drops them")
 
 
 def check_hosts(arrivals, host):
@@ -118,10 +118,10 @@ def check_hosts(arrivals, host):
         return
     hosts = Counter(shown(mail.host()[:MOST_OF_A_HOST]) or "a host that cannot be read" for mail in mails)
     more = f" and {counted(len(hosts) - MOST_HOSTS, 'other')}" if len(hosts) > MOST_HOSTS else ""
-    told = f"nothing was sent: no mail was received by {host}, but {counted(len(mails), 'mail')} by"
-    told = f"{told} {', '.join(name for name, _ in hosts.most_common(MOST_HOSTS))}{more}"
+    message = f"nothing was sent: no mail was received by {host}, but {counted(len(mails), 'mail')} by"
+    message = f"{message} {', '.join(name for name, _ in hosts.most_common(MOST_HOSTS))}{more}"
     named = ", ".join(shown(mail.name) for mail in mails[:MOST_HOSTS])
-    raise Refused(f"{told} ({named}): name your own server by --received-by, or move these mails out of FOLDER")
+    raise Refused(f"{message} ({named}): name your own server by --received-by, or move these mails out of FOLDER")
 
 
 def place_of_copy(desk):
@@ -146,14 +146,14 @@ def copy_before(desk, seen):
 
 def warn_of_times(batch, host):
     """Names each mail that is new and has a time of a server which is not taken."""
-    new = [each.arrival for each in batch.ballots if not each.is_told]
+    new = [each.arrival for each in batch.ballots if not each.is_reported]
     passed = [each.mail for each in new if each.by is By.FILE and each.mail.has_received]
     if passed:
-        told = f"the time of the file counts for {counted(len(passed), 'mail')}, and not the field Received"
+        message = f"the time of the file counts for {counted(len(passed), 'mail')}, and not the field Received"
         why = f"none of {host} with a date is at the top"
         if host is None:
             why = "no --received-by HOST names your own server"
-        note(f"warning: {told}: {why}")
+        note(f"warning: {message}: {why}")
         for mail in passed:
             note(f"warning: it is the time of the file for {shown(mail.name)}")
 
@@ -161,8 +161,8 @@ def warn_of_times(batch, host):
 def warn_of_unknown(batch, journal):
     """Says that the desk has ballots by another way, as with another journal, which are replaced."""
     if unknown := batch.unknown():
-        told = f"the desk has a ballot of {counted(len(unknown), 'voter')} that {journal.name} lacks"
-        note(f"warning: {told}, and this run replaces it: check that this is the journal of the vote")
+        message = f"the desk has a ballot of {counted(len(unknown), 'voter')} that {journal.name} lacks"
+        note(f"warning: {message}, and this run replaces it: check that this is the journal of the vote")
 
 
 def tell_of_other_votes(elsewhere):
@@ -173,55 +173,55 @@ def tell_of_other_votes(elsewhere):
 
 def warn_of_open_votes(batch, open_votes, desk, journal):
     """Names each vote that must be closed before all ballots on this one are sent, and says how."""
-    waiting = [each.moment for each in batch.ballots if each.case is Standing.BEHIND]
+    waiting = [each.moment for each in batch.ballots if each.standing is Standing.BEHIND]
     ends = batch.ends_before(max(waiting)) if waiting else []
     for number, end in sorted(open_votes.items()):
         if end in ends:
             line = ["gr-desk", "act", f"--desk={desk}", f"--at={date_of(end)}", f"--journal={journal.name}"]
-            told = f"warning: the vote on resolution {number} ended at {date_of(end)}, and is not closed"
-            told = f"{told}; enter its ballots by gr-desk votes, close it, and run this again"
-            note(f"{told}: {shlex.join([*line, 'close', str(number)])}")
+            message = f"warning: the vote on resolution {number} ended at {date_of(end)}, and is not closed"
+            message = f"{message}; enter its ballots by gr-desk votes, close it, and run this again"
+            note(f"{message}: {shlex.join([*line, 'close', str(number)])}")
 
 
-def post(words, folder, journal):
+def post(arguments, folder, journal):
     """Sends what must be sent, and gives the exit status."""
-    desk = DeskFile(words.desk) if words.desk else None
+    desk = DeskFile(arguments.desk) if arguments.desk else None
     now = int(time.time())
     check_none_held(journal)
     if desk:
         desk.check_free()
-    with sheets_of(words) as sheets:
+    with sheets_of(arguments) as sheets:
         seen = look_at(desk, sheets, journal, now) if desk else None
-        read = Sheets(sheets, words.resolution)
+        read = Sheets(sheets, arguments.resolution)
     if desk:
-        check_has_ballots(desk, journal, words.resolution, read.held)
-    arrivals, strays, elsewhere = arrivals_in(folder, read.form, words.received_by, read.roll, read.others)
-    check_hosts(arrivals, words.received_by)
-    outbox = Outbox(words.outbox or f"{os.path.abspath(folder)}.outbox")
+        check_has_ballots(desk, journal, arguments.resolution, read.stored)
+    arrivals, strays, elsewhere = arrivals_in(folder, read.form, arguments.received_by, read.roll, read.others)
+    check_hosts(arrivals, arguments.received_by)
+    outbox = Outbox(arguments.outbox or f"{os.path.abspath(folder)}.outbox")
     clock = seen.header.clock if desk else now
-    batch = Batch(words.resolution, read.form.end, read.ends, now, clock, read.held, journal.entries, outbox.known,
-                  read.roll, words.domain)
+    batch = Batch(arguments.resolution, read.form.end, read.ends, now, clock, read.stored, journal.entries,
+                  outbox.digests, read.roll, arguments.domain)
     batch.take(arrivals)
     warn_of_writable(folder)
     warn_of_unknown(batch, journal)
     tell_of_other_votes(elsewhere)
-    warn_of_open_votes(batch, read.open_votes, words.desk, journal)
-    answers = Answers(batch, read.form, words.domain)
-    mark_told(batch, answers, outbox)
-    warn_of_times(batch, words.received_by)
-    remedy = Remedy(words.resolution, words.desk, words.address, journal.name, journal.entries, batch.clock_behind(),
-                    read.form.end)
+    warn_of_open_votes(batch, read.open_votes, arguments.desk, journal)
+    answers = Answers(batch, read.form, arguments.domain)
+    mark_reported(batch, answers, outbox)
+    warn_of_times(batch, arguments.received_by)
+    remedy = Remedy(arguments.resolution, arguments.desk, arguments.address, journal.name, journal.entries,
+                    batch.clock_behind(), read.form.end)
     table = Table(batch, read.form, read.roll, (journal.name, outbox.folder), remedy,
-                  words.received_by)
+                  arguments.received_by)
     print_text(table.text(strays))
     sending, known = batch.to_send(), len(journal.entries.all)
     if sending:
         ask(sending, strays)
         if desk:
             desk.check_free()
-    posting = Submission(batch, journal, desk, words.address)
+    posting = Submission(batch, journal, desk, arguments.address)
     # A signal ends it at once: the next run writes the mails.
-    errors = errors_of(send, posting, sending, seen)
+    errors = errors_of(copy_and_send, posting, sending, seen)
     unwritten = errors_of(write_mails, batch, answers, outbox)
     numbers = list(journal.entries.all)[known:]
     unanswered = table.unanswered(is_written=not unwritten)
@@ -237,7 +237,7 @@ def ask(sending, strays):
         confirm(f"Send {counted(len(sending), 'vote')}{left}?", "run")
 
 
-def send(posting, sending, seen):
+def copy_and_send(posting, sending, seen):
     """Sends ballots, if there are any; to the file of a desk once it was copied as it was seen. What they replace is in
     the journal before."""
     if sending and posting.desk:
@@ -275,20 +275,20 @@ def print_text(text):
     say(text.encode(errors="backslashreplace"))
 
 
-def mark_told(batch, answers, outbox):
+def mark_reported(batch, answers, outbox):
     """Marks the ballots that were answered or reported before."""
     answered = {login for login, answer in answers.all() if outbox.has(answer.digest)}
     for each in batch.ballots:
-        if each.case in ANSWERED:
-            each.is_told = each.login in answered
-        elif each.case is Standing.REPLACED:
-            each.is_told = outbox.has(each.digest())
+        if each.standing in ANSWERED:
+            each.is_reported = each.login in answered
+        elif each.standing is Standing.REPLACED:
+            each.is_reported = outbox.has(each.digest())
 
 
 def write_mails(batch, answers, outbox):
     """Writes a mail to each voter whose ballots were answered."""
     written = sum(outbox.put(login, answer) for login, answer in answers.all())
-    outbox.keep([each.digest() for each in batch.ballots if each.case is Standing.REPLACED])
+    outbox.keep([each.digest() for each in batch.ballots if each.standing is Standing.REPLACED])
     outbox.end()
     note(f"{counted(written, 'mail')} written to {outbox.folder}")
 
@@ -322,15 +322,15 @@ def parser():
     return command
 
 
-def run(words):
-    rest = take_desk(words, words.rest)
+def run(arguments):
+    rest = take_desk(arguments, arguments.rest)
     if len(rest) != 1:
-        told = f"there is a word too many: {rest[1]!r}" if rest else "the name of FOLDER is missing"
-        raise Wrong(f"{told}; gr-desk votes --help says more")
-    if journal_name(words) is None:
+        message = f"there is a word too many: {rest[1]!r}" if rest else "the name of FOLDER is missing"
+        raise Wrong(f"{message}; gr-desk votes --help says more")
+    if journal_name(arguments) is None:
         raise Wrong(NO_JOURNAL)
     if not os.path.isdir(rest[0]):
         raise Failed(f"{rest[0]} is no folder")
-    words.address = address_of(words) if words.desk is None else None
-    with journal_at(journal_name(words), is_made=True) as journal:
-        return post(words, rest[0], journal)
+    arguments.address = address_of(arguments) if arguments.desk is None else None
+    with journal_at(journal_name(arguments), is_made=True) as journal:
+        return post(arguments, rest[0], journal)

@@ -31,8 +31,8 @@ def parser():
     return command
 
 
-def run(words):
-    address, seconds = address_of(words), words.seconds or SECONDS
+def run(arguments):
+    address, seconds = address_of(arguments), arguments.seconds or SECONDS
     end = time.monotonic() + seconds
     while True:
         try:

@@ -21,7 +21,7 @@ from grdesk.desk.program import program
 from grdesk.interruption import undisturbed
 from grdesk.new_file import Folder, check_shared, naming, new_file, write_all
 from grdesk.output import hand_on, note
-from grdesk.regular_file import opened
+from grdesk.regular_file import open_regular
 from grdesk.stop import Failed, Refused, Wrong
 
 # What the program says of a desk of an earlier version, and of a file that is not there.
@@ -102,7 +102,7 @@ def new_place(name):
 def head_of(log):
     """The first bytes of a log, and how many it has. None: there is no log."""
     try:
-        with opened(log) as file:
+        with open_regular(log) as file:
             return file.read(HEAD_BYTES), os.fstat(file.fileno()).st_size
     except FileNotFoundError:
         return None, 0
@@ -121,7 +121,7 @@ def is_settled(moment):
     return moment.file is None or not 0 <= time.time_ns() - moment.file[2] < TICK
 
 
-class Copied(NamedTuple):
+class CopyTries(NamedTuple):
     """How a copy was made: at which try, and how many tries met a log that began anew."""
 
     tries: int
@@ -140,7 +140,7 @@ def copy_desk(file, copy):
             behind = stamp_of(file)
             if head_of(log_of(copy))[0] == before.head and behind == before:
                 check_no_journal(file)
-                return Copied(number, begun_anew)
+                return CopyTries(number, begun_anew)
             begun_anew += behind.head != before.head
         with suppress(FileNotFoundError):
             os.unlink(log_of(copy))
@@ -152,7 +152,7 @@ def copy_bytes(source, target):
     """Copies a file from its beginning to its end: the first frame of a commit counts only once the others are there.
     What an earlier try left under the name is taken away first."""
     try:
-        with opened(source) as reader, new_file(target) as writer:
+        with open_regular(source) as reader, new_file(target) as writer:
             while piece := reader.read(PIECE):
                 with naming(target):
                     write_all(writer.fileno(), piece)
@@ -215,7 +215,7 @@ def hand_on_named(line, file):
 def copied_again(copy, end="read"):
     """A copy of a copy, with a name of its own, for what may write in it, or put a log beside it."""
     further = f"{copy}.{end}"
-    for part in parts_of(copy):
+    for part in parts_at(copy):
         copy_bytes(part, further + part.removeprefix(copy))
     return further
 
@@ -230,14 +230,14 @@ def sync(path):
         os.close(number)
 
 
-def parts_of(file):
+def parts_at(file):
     """What there is of the log and the digests of a file, and the file."""
     return [path for path in (log_of(file), digests_at(file), file) if os.path.exists(path)]
 
 
 def odd_part(copy):
     """What there is of a copy that is no file, or None: to read a FIFO would never end, and a link leads elsewhere."""
-    return next((part for part in (copy, *parts_of(copy)) if not stat.S_ISREG(os.lstat(part).st_mode)), None)
+    return next((part for part in (copy, *parts_at(copy)) if not stat.S_ISREG(os.lstat(part).st_mode)), None)
 
 
 def put_in_place(copy, folder, base):
@@ -245,7 +245,7 @@ def put_in_place(copy, folder, base):
     to stand there is left, since no name is ever taken from what has it."""
     given = []
     try:
-        for part in parts_of(copy):
+        for part in parts_at(copy):
             name = base + part.removeprefix(copy)
             give_name(part, folder, name)
             given.append(name)
@@ -279,7 +279,7 @@ def copy_to(file, place, is_backup, is_wanted=None):
             check_opens(copy, "the copy does not open, and is not kept")
             if is_backup:
                 write_digests(copy, log_of(copy), base)
-            for path in parts_of(copy):
+            for path in parts_at(copy):
                 sync(path)
             if is_wanted is None or is_wanted(copy):
                 with undisturbed():
@@ -287,15 +287,15 @@ def copy_to(file, place, is_backup, is_wanted=None):
     return copied
 
 
-def is_held(path):
+def is_locked(path):
     """Whether another process holds a lock on the file, as a desk and stock SQLite do. None is taken to find out."""
-    asked = struct.pack("hhqqi", fcntl.F_WRLCK, os.SEEK_SET, LOCKS_START, LOCKS_LENGTH, 0)
+    request = struct.pack("hhqqi", fcntl.F_WRLCK, os.SEEK_SET, LOCKS_START, LOCKS_LENGTH, 0)
     with open(path, "rb") as file:
-        told = fcntl.fcntl(file, fcntl.F_GETLK, asked)
-    return struct.unpack("hhqqi", told)[0] != fcntl.F_UNLCK
+        answer = fcntl.fcntl(file, fcntl.F_GETLK, request)
+    return struct.unpack("hhqqi", answer)[0] != fcntl.F_UNLCK
 
 
-def is_held_without_name(path):
+def is_open_without_name(path):
     """Whether a process that can be looked at has the file open that was under this name until it was removed."""
     gone = f"{path} (deleted)"
     for process in filter(str.isdigit, os.listdir("/proc")):

@@ -1,7 +1,7 @@
 """The file of a desk, to which acts are given by `gr-desk once`. No other process may hold it meanwhile."""
 import subprocess
 
-from grdesk.desk.copy import desk_at, is_held
+from grdesk.desk.copy import desk_at, is_locked
 from grdesk.desk.program import program
 from grdesk.desk.request import answer_in
 from grdesk.desk.room import why_no_room
@@ -32,7 +32,7 @@ class DeskFile:
     def check_free(self):
         """Fails where another process holds the file."""
         try:
-            is_another = is_held(self.path)
+            is_another = is_locked(self.path)
         except OSError as error:
             raise Unsent(f"{self.name} cannot be read: {error.strerror}") from None
         if is_another:

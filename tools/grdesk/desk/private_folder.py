@@ -48,8 +48,8 @@ def report_left(place):
     for folder in left_in(place):
         if folder not in REPORTED:
             REPORTED.add(folder)
-            told = f"warning: {folder} was left by a tool that was killed, and has a copy of a desk, with all ballots"
-            note(f"{told}: rm -r {shlex.quote(folder)}")
+            message = f"warning: {folder} was left by a tool that was killed, and has a copy of a desk"
+            note(f"{message}, with all ballots: rm -r {shlex.quote(folder)}")
 
 
 class Lock:

@@ -1,7 +1,7 @@
 """The ranks of a ballot, as the desk writes them: a character for each place, last that of the default option."""
 RANKS = "123456789abcdefghijklmnopqrstuvwxyz"
 NO_RANK = "-"
-# What a reader of a tally is told of those above 9.
+# What a reader of a tally needs to know of those above 9.
 LETTERS = "a stands for 10, b for 11, and so on up to z for 35"
 DEFAULT_OPTION = "None of the above"
 

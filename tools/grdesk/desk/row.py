@@ -35,7 +35,7 @@ class Header(NamedTuple):
 
 
 @contextmanager
-def opened(copy, name):
+def connection(copy, name):
     """A copy of the desk under this name, as stock SQLite reads it. It changes neither the file nor a log that has
     anything, but may put a log and its index beside them."""
     try:
@@ -55,7 +55,7 @@ def why_not_read(copy, name, error):
 
 
 def header_in(copy, name):
-    with opened(copy, name) as conn:
+    with connection(copy, name) as conn:
         rows = conn.execute("SELECT accepted, clock FROM desk").fetchall()
     if len(rows) != 1 or not all(isinstance(number, int) for number in rows[0]):
         raise Failed(f"{name} cannot be read as a desk: its table desk has no row, or one that no desk has")
@@ -73,7 +73,7 @@ def read_from(reads, file, name):
 def rows_in(copy, name):
     """The rows of each table of the desk under this name, by their keys, from a copy of it. Texts are bytes, since they
     may be no UTF-8 any more."""
-    with opened(copy, name) as conn:
+    with connection(copy, name) as conn:
         conn.text_factory = bytes
         return {table: dict(rows_of(conn, table)) for table in TABLES}
 
@@ -86,14 +86,14 @@ def rows_of(conn, table):
 
 def voting_in(copy, name):
     """The numbers of the resolutions in voting."""
-    with opened(copy, name) as conn:
+    with connection(copy, name) as conn:
         rows = conn.execute("SELECT number FROM resolution WHERE stage = ? ORDER BY number", [VOTING])
         return [number for (number,) in rows]
 
 
 def faults_in(copy, name):
     """What stock SQLite finds wrong with the file, beside its rows."""
-    with opened(copy, name) as conn:
+    with connection(copy, name) as conn:
         lines = [str(line) for (line,) in conn.execute("PRAGMA integrity_check")]
     return [] if lines == ["ok"] else lines
 

@@ -34,7 +34,7 @@ class ServedSheets:
 
     def __init__(self, address):
         self.address = address
-        self.asked = 0
+        self.requests = 0
 
     def header(self):
         """None, since no sheet reports the desk's clock, or how many acts it accepted."""
@@ -52,10 +52,10 @@ class ServedSheets:
         try:
             status, body = exchange(self.address, request_of("GET", "/" + "/".join(map(str, words))), PATIENCE)
         except NoResponse as error:
-            self.asked += error.was_connected
-            told = f"{self.address} gave no sheet, after {counted(self.asked, 'connection')}"
-            raise Failed(f"{told}: {error}") from None
-        self.asked += 1
+            self.requests += error.was_connected
+            message = f"{self.address} gave no sheet, after {counted(self.requests, 'connection')}"
+            raise Failed(f"{message}: {error}") from None
+        self.requests += 1
         if status not in (200, 409, 503):
             raise Failed(f"what listens on {self.address.name} is no desk, and answered status {status}")
         return answer_of(status == 200, status == 409, body)
@@ -127,24 +127,24 @@ def add_desk(parser):
 
 
 @contextmanager
-def sheets_of(words):
+def sheets_of(arguments):
     """The sheets of the desk that the words name."""
-    if words.desk is None:
-        yield ServedSheets(address_of(words))
+    if arguments.desk is None:
+        yield ServedSheets(address_of(arguments))
         return
-    if address := given_address(words):
+    if address := given_address(arguments):
         raise Wrong(f"a DESK and a {address.option} are given: one of them says which desk")
-    file = desk_at(words.desk)
+    file = desk_at(arguments.desk)
     with private_folder(room=room_of(file, COPIES)) as folder:
         copy = str(folder / "desk")
         copy_desk(file, copy)
-        yield FileSheets(copy, words.desk)
+        yield FileSheets(copy, arguments.desk)
 
 
 # What the lines say.
 
 
-class Lines:
+class SheetLines:
     """The lines of a sheet, from the first one on."""
 
     def __init__(self, what, text):
@@ -198,7 +198,7 @@ class Outcome(NamedTuple):
 
 
 def outcome_of(number, text):
-    lines = Lines(f"the result of resolution {number}", text)
+    lines = SheetLines(f"the result of resolution {number}", text)
     lines.all("(?!Schwartz: ).*")
     return Outcome(outcome_in(lines), bool(lines.find("Casting vote needed")))
 
@@ -213,7 +213,7 @@ class Developer(NamedTuple):
 
 def roll_of(text):
     """The developers of the roll."""
-    lines = Lines("the roll", text)
+    lines = SheetLines("the roll", text)
     lines.take(f"Developers: {NUMBER}")
     lines.take(f"Current: {NUMBER}")
     found = lines.all(r"D: (\S+) (current|retired) (.*)")
@@ -258,7 +258,7 @@ class Status(NamedTuple):
 
 
 def status_of(number, text):
-    lines = Lines(f"the status of resolution {number}", text)
+    lines = SheetLines(f"the status of resolution {number}", text)
     lines.take(f"Resolution {number}")
     stage = lines.take("Stage: (Draft|Discussing|Voting|Closed|Cancelled)")[1]
     spans = [lines.find(f"{word}: {TIME} to {TIME}") for word in ("Discussion", "Voting")]

@@ -34,7 +34,7 @@ LINES = {
 FORMS = dict(sorted(LINES))
 
 
-class Unknown(Exception):
+class UnknownForm(Exception):
     """A line is of no known form."""
 
 
@@ -128,8 +128,8 @@ class Replaced:
 
 def arrived(entry):
     """When the mail of an act arrived, as far as is known: at the act's own moment if its source does not say it."""
-    told = (entry.source or {}).get("arrived")
-    return told if isinstance(told, int) else entry.seconds()[-1]
+    moment = (entry.source or {}).get("arrived")
+    return moment if isinstance(moment, int) else entry.seconds()[-1]
 
 
 # The fields that stand in one line with the act.
@@ -229,13 +229,13 @@ class Entries:
         """The act of this number, of which one of these is known so far."""
         entry = self.all.get(number)
         if entry is None or entry.fate not in fates:
-            raise Unknown
+            raise UnknownForm
         return entry
 
     def take_act(self, line):
         """An act is about to be sent: a new one, or one that was held."""
         if (line["moment"] is None) == (line["before"] is None):
-            raise Unknown
+            raise UnknownForm
         if line["number"] in self.all:
             entry = self.entry(line["number"], Fate.HELD)
             self.settled.pop(entry.number, None)
@@ -253,9 +253,9 @@ class Entries:
 
     def new(self, line):
         if set(line["fields"]) != fields_at(line["path"]):
-            raise Unknown
+            raise UnknownForm
         if line["number"] != self.next_number(Act(line["path"], {}).is_vote):
-            raise Unknown
+            raise UnknownForm
         if line["desk"] is not None:
             self.desk = line["desk"]
         entry = Entry(*(line[field] for field in ("number", "path", "fields", "source", "moment")))
@@ -270,9 +270,9 @@ class Entries:
 
     def settle(self, entry, status, text):
         """An answer says what became of an act, unless it is that of a fault."""
-        told = ACCEPTED.fullmatch(text)
-        if status == 200 and told:
-            self.accept(entry, int(told[1]))
+        match = ACCEPTED.fullmatch(text)
+        if status == 200 and match:
+            self.accept(entry, int(match[1]))
         elif status not in (200, 503):
             self.refuse(entry)
 
@@ -324,7 +324,7 @@ class Entries:
             self.refuse(entry)
             entry.fate = Fate.HELD if entry.is_held else entry.fate
         elif entry.below is not None and not self.may_have(entry, line["count"]):
-            raise Unknown
+            raise UnknownForm
         else:
             self.accept(entry, line["count"])
 
@@ -335,7 +335,7 @@ class Entries:
 
     def take_replaced(self, line):
         if not isinstance(line["source"].get("arrived"), int):
-            raise Unknown
+            raise UnknownForm
         fields = {name: line[name] for name in ("login", "ranks", "token")}
         self.replaced.append(Replaced(line["resolution"], fields, line["source"]))
 
@@ -344,7 +344,7 @@ class Entries:
 
     def take_replayed(self, line):
         if self.replay is None:
-            raise Unknown
+            raise UnknownForm
         replay, self.replay = self.replay, None
         if not line["is_done"]:
             return
@@ -390,12 +390,12 @@ def line_of(kind, **fields):
 def check_form(line):
     """Looks whether a line has just the fields of its kind, each of its type."""
     if not isinstance(line, dict) or not isinstance(line.get("line"), str) or type(line.get("form")) is not int:
-        raise Unknown
+        raise UnknownForm
     fields = LINES.get((line["line"], line["form"]))
     if fields is None or set(line) != {"form", "line", *fields}:
-        raise Unknown
+        raise UnknownForm
     if not all(isinstance(line[field], types) for field, types in fields.items()):
-        raise Unknown
+        raise UnknownForm
     texts = line.get("fields", {}), line.get("answers", {})
     if not all(isinstance(text, str) for each in texts for text in each.values()):
-        raise Unknown
+        raise UnknownForm

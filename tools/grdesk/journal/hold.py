@@ -3,13 +3,13 @@ import time
 from types import SimpleNamespace
 
 from grdesk.acts.act import EXITS
-from grdesk.acts.explanation import Explained
+from grdesk.acts.explanation import Explanation
 from grdesk.acts.moment import is_voting_over, late_call
 from grdesk.dates import dated
 from grdesk.desk.file import DeskFile
 from grdesk.journal.delivery import check_has_all, enter_kept
 from grdesk.journal.entry import Fate
-from grdesk.journal.open_act import settle
+from grdesk.journal.open_act import settle_open_acts
 from grdesk.output import note, say_line
 from grdesk.stop import Failed, Refused, Unsent
 
@@ -30,7 +30,7 @@ def enter_due(journal, is_sure):
     desk.check_free()
     header = desk.header()
     check_has_all(journal, desk, header)
-    settle(journal, header, desk)
+    settle_open_acts(journal, header, desk)
     check_settled(entries)
     sent = []
     for earliest, entry in list(entries.coming()):
@@ -64,8 +64,8 @@ def check_settled(entries):
     for entry in entries.open:
         if entry.is_held:
             number = entry.number
-            told = f"nothing was sent: find out whether the desk has accepted {number}, and run gr-desk journal settle"
-            raise Refused(f"{told} {number} accepted, or settle {number} refused: then it is on hold again")
+            message = f"nothing was sent: find out whether the desk has accepted {number}, and run gr-desk journal settle"
+            raise Refused(f"{message} {number} accepted, or settle {number} refused: then it is on hold again")
 
 
 def enter_held(journal, desk, entry):
@@ -73,7 +73,7 @@ def enter_held(journal, desk, entry):
     is said, since that would be its ranks."""
     act = entry.again()
     words = SimpleNamespace(desk=desk.path, port=None, socket=None, at=entry.moment, explain=False)
-    explained = Explained(act, words)
+    explained = Explanation(act, words)
     if not act.is_vote:
         explained.before()
     answer = enter_kept(journal, desk, act, entry.moment, desk.header().accepted, entry.source, entry.number)
@@ -87,12 +87,12 @@ def check_call(entry, is_sure, sent):
     """Says how late a call comes, and refuses one for which nobody could vote any more, unless that is intended. `sent`
     are the numbers of the acts that were sent before it."""
     call, now = entry.again(), int(time.time())
-    told = late_call(call, entry.moment, now)
+    message = late_call(call, entry.moment, now)
     if is_voting_over(call, entry.moment, now) and not is_sure:
         number = entry.number
         way = f"with --yes {number} is entered all the same, and gr-desk journal drop {number} takes it back"
-        raise Refused(f"{unsent_after(sent)}: {told}; {way}")
-    note(f"warning: {told}")
+        raise Refused(f"{unsent_after(sent)}: {message}; {way}")
+    note(f"warning: {message}")
 
 
 def take_back(journal, number, source):

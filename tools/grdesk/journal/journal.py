@@ -7,7 +7,7 @@ import stat
 from contextlib import contextmanager, suppress
 
 from grdesk.desk.copy import desk_at, sync
-from grdesk.journal.entry import Entries, Unknown, line_of
+from grdesk.journal.entry import Entries, UnknownForm, line_of
 from grdesk.journal.stopped_replay import became_of
 from grdesk.new_file import is_trusted, write_all
 from grdesk.output import note
@@ -44,7 +44,7 @@ class Journal:
                 return
             try:
                 self.entries = self.entries.after(json.loads(line))
-            except (Unknown, ValueError):
+            except (UnknownForm, ValueError):
                 raise Failed(f"line {number} of {self.name} has a form that this tool does not know") from None
             self.length += len(line) + 1
 
@@ -96,11 +96,11 @@ class Journal:
             is_done, said = became_of(self.entries)
         except (OSError, Stop) as error:
             why = getattr(error, "strerror", None) or error
-            told = f"a replay was stopped, and {begun['desk']} cannot be read to see whether it was done: {why}"
+            message = f"a replay was stopped, and {begun['desk']} cannot be read to see whether it was done: {why}"
             if not is_read and not isinstance(error, FileNotFoundError):
                 way = "put a copy of that desk in its place, or move it away"
-                raise Failed(f"nothing was done: {told}; {way}") from None
-            note(told)
+                raise Failed(f"nothing was done: {message}; {way}") from None
+            note(message)
             return
         note(f"a replay was stopped: {said}")
         keep = self.know if is_read else self.add
@@ -110,8 +110,8 @@ class Journal:
         """Refuses the desk with this path where the journal is of another one."""
         desk = self.entries.desk
         if desk is not None and path is not None and desk != path:
-            told = f"nothing was sent: {self.name} is the journal of the desk {desk}, and not of {path}"
-            raise Refused(f"{told}; if the desk has moved, gr-desk journal replay takes the journal there")
+            message = f"nothing was sent: {self.name} is the journal of the desk {desk}, and not of {path}"
+            raise Refused(f"{message}; if the desk has moved, gr-desk journal replay takes the journal there")
 
 
 def whole(descriptor):
@@ -126,7 +126,7 @@ def is_half_written(line, is_ended):
     """Whether a stop has cut off this last line. A crash leaves each byte of it, or a zero in its place. What begins
     otherwise is none of a journal."""
     is_cut = not is_ended or b"\0" in line
-    return is_cut and all(told in (wanted, 0) for told, wanted in zip(line, HEAD))
+    return is_cut and all(byte in (wanted, 0) for byte, wanted in zip(line, HEAD))
 
 
 @contextmanager
@@ -172,17 +172,17 @@ def check_private_file(name, about):
     if not stat.S_ISREG(about.st_mode):
         raise Failed(f"{name} is no file")
     if about.st_uid != os.geteuid():
-        told = f"nothing was done: {name} belongs to another account, which could read every ballot there"
-        raise Refused(f"{told}: take a journal of your own, or run this as that account")
+        message = f"nothing was done: {name} belongs to another account, which could read every ballot there"
+        raise Refused(f"{message}: take a journal of your own, or run this as that account")
     if about.st_mode & 0o077:
         raise Refused(f"nothing was done: other accounts may read {name}, which knows every ballot: chmod 600 {name}")
 
 
-def journal_name(words):
+def journal_name(arguments):
     """The name of the journal that the words give, or the environment; None where neither does."""
-    if words.journal == "":
+    if arguments.journal == "":
         raise Wrong("--journal needs the name of a file")
-    return words.journal or os.environ.get("GR_DESK_JOURNAL") or None
+    return arguments.journal or os.environ.get("GR_DESK_JOURNAL") or None
 
 
 def lacks_acts(entries, accepted):
@@ -191,39 +191,39 @@ def lacks_acts(entries, accepted):
     return accepted < entries.last
 
 
-def lacking(words, accepted):
+def lacking(arguments, accepted):
     """The name of the journal of the desk that the words of a tool name, which accepted so many acts, where it lacks
     acts of that; else None. A journal of the environment that is not there, or is of another desk, is passed over."""
-    name, is_meant = journal_name(words), words.journal is not None
+    name, is_meant = journal_name(arguments), arguments.journal is not None
     if name is None or not is_meant and not os.path.exists(name):
         return None
     with journal_at(name, is_read=True) as journal:
         entries = journal.entries
-    if entries.desk in (None, desk_at(words.desk)):
+    if entries.desk in (None, desk_at(arguments.desk)):
         return name if lacks_acts(entries, accepted) else None
     if is_meant:
-        raise Refused(f"{name} is the journal of the desk {entries.desk}, and not of {words.desk}")
+        raise Refused(f"{name} is the journal of the desk {entries.desk}, and not of {arguments.desk}")
     return None
 
 
-def entries_of(words):
+def entries_of(arguments):
     """The acts of the journal of the desk that the words of a tool name, or None where there is none. One of the
     environment that is not there, or is of another desk, is passed over."""
-    if words.desk is None:
-        if words.journal is not None:
+    if arguments.desk is None:
+        if arguments.journal is not None:
             raise Wrong("--journal needs DESK: by a port it is not known of which desk the journal is")
         return None
-    name, is_meant = journal_name(words), words.journal is not None
+    name, is_meant = journal_name(arguments), arguments.journal is not None
     if name is None or not is_meant and not os.path.exists(name):
         if name is not None:
             note(f"warning: {name} of GR_DESK_JOURNAL is not there, so no held act is known")
         return None
     with journal_at(name, is_read=True) as journal:
         entries = journal.entries
-    if entries.desk in (None, desk_at(words.desk)):
+    if entries.desk in (None, desk_at(arguments.desk)):
         return entries
-    told = f"{name} is the journal of the desk {entries.desk}, and not of {words.desk}"
+    message = f"{name} is the journal of the desk {entries.desk}, and not of {arguments.desk}"
     if is_meant:
-        raise Refused(told)
-    note(f"warning: {told}, so no held act is known")
+        raise Refused(message)
+    note(f"warning: {message}, so no held act is known")
     return None

@@ -2,7 +2,7 @@
 was sent to a port is known by the rows of the desk, or from the Secretary, and never by a count."""
 from grdesk.dates import dated
 from grdesk.desk.copy import private_folder
-from grdesk.journal.entry import Fate, Unknown, line_of
+from grdesk.journal.entry import Fate, UnknownForm, line_of
 from grdesk.journal.prefix import Comparison
 from grdesk.journal.replay import way_to_settle
 from grdesk.journal.timeline import tells_of_votes
@@ -10,7 +10,7 @@ from grdesk.output import note
 from grdesk.stop import Failed, Refused
 
 
-def settle(journal, header, desk):
+def settle_open_acts(journal, header, desk):
     """Finds out by the file of the desk, or by the copy whose sheets are read, whether it has accepted them, keeps that
     and says so. Else it says how to find out."""
     entries = journal.entries
@@ -22,7 +22,7 @@ def settle(journal, header, desk):
     if taken is None:
         taken = taken_by_moment(entries, header)
     if taken is None:
-        tell(entries)
+        report_open_acts(entries)
         return
     keep_accepted(taken, journal.add)
     for entry in list(entries.open):
@@ -59,7 +59,7 @@ def taken_by_rows(entries, desk):
     try:
         found = desk.rows()
         with private_folder() as folder:
-            made = Comparison.begin(entries, found, folder).made()
+            made = Comparison.begin(entries, found, folder).made_desks()
     except Refused:
         return None
     except Failed as error:
@@ -80,7 +80,7 @@ def without_answer(entry):
     return f"the journal has no answer to {entry.number} ({entry.words()})"
 
 
-def tell(entries):
+def report_open_acts(entries):
     """Says which acts are open, and how to find out what became of them."""
     for entry in entries.open:
         when = dated(entry.seconds()[0])
@@ -111,8 +111,8 @@ def say_settled(journal, number, is_accepted, count):
         held = ", and is on hold" if entry.fate is Fate.HELD else ""
         note(f"{number} ({entry.words()}) counts as not accepted{held}")
         return
-    told = "" if tells_of_votes(journal.entries, count) else f", as act {count} of the desk"
-    note(f"{number} ({entry.words()}) counts as accepted{told}")
+    message = "" if tells_of_votes(journal.entries, count) else f", as act {count} of the desk"
+    note(f"{number} ({entry.words()}) counts as accepted{message}")
 
 
 def number_said(entries, number, count):
@@ -129,13 +129,13 @@ def check_settles(entries, entry, count):
     if entry.fate is Fate.OPEN:
         return
     if entry.fate is not Fate.GONE and entries.number_of(entry) == count:
-        told = "not accepted" if count is None else "accepted"
-        raise Refused(f"nothing was changed: {entry.number} counts as {told} already")
+        message = "not accepted" if count is None else "accepted"
+        raise Refused(f"nothing was changed: {entry.number} counts as {message} already")
     try:
         entries.after(line_of("found", number=entry.number, count=count))
-    except Unknown:
-        told = "nothing was changed: the journal has lines after it that do not go with that"
-        raise Refused(f"{told}; gr-desk journal list shows what became of {entry.number}") from None
+    except UnknownForm:
+        message = "nothing was changed: the journal has lines after it that do not go with that"
+        raise Refused(f"{message}; gr-desk journal list shows what became of {entry.number}") from None
 
 
 def number_of(entries, entry, count):
@@ -143,10 +143,10 @@ def number_of(entries, entry, count):
     free = entries.numbers_for(entry)
     if count is None:
         if free is None or len(free) != 1:
-            told = "nothing was changed: it may have one of several numbers"
-            raise Refused(f"{told}; say which the desk gave it, by --as COUNT: its answer began with `ok COUNT`")
+            message = "nothing was changed: it may have one of several numbers"
+            raise Refused(f"{message}; say which the desk gave it, by --as COUNT: its answer began with `ok COUNT`")
         return free[0]
     if not entries.may_have(entry, count):
-        told = f"nothing was changed: {entry.number} cannot be act {count} of the desk"
-        raise Refused(f"{told}: another act has that number, or acts that were sent before it or after it have others")
+        message = f"nothing was changed: {entry.number} cannot be act {count} of the desk"
+        raise Refused(f"{message}: another act has that number, or acts that were sent before it or after it have others")
     return count

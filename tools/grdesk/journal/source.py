@@ -4,7 +4,7 @@ import hashlib
 from grdesk.journal.entry import Fate
 from grdesk.mail_head import Head
 from grdesk.output import shown
-from grdesk.regular_file import opened
+from grdesk.regular_file import open_regular
 from grdesk.stop import Failed, Wrong
 
 # What is said of an act that came from the same source as another one.
@@ -25,7 +25,7 @@ def source_of(text):
     if not text.startswith("@"):
         return {"text": text}
     try:
-        with opened(text[1:]) as file:
+        with open_regular(text[1:]) as file:
             mail = file.read()
     except OSError as error:
         raise Wrong(f"{text[1:]!r} cannot be read: {error.strerror}") from None
@@ -49,11 +49,11 @@ def source_text(source):
 def acts_from(entries, source):
     """The acts of a journal with the same source: one Message-ID, one SHA-256 or one text. A Message-ID may have been
     given as a text. Acts that the desk has not, and will not have, are none of them."""
-    marks = parts_of(source)
-    return [entry for entry in entries.all.values() if entry.fate in FATES and marks & parts_of(entry.source)]
+    marks = marks_of(source)
+    return [entry for entry in entries.all.values() if entry.fate in FATES and marks & marks_of(entry.source)]
 
 
-def parts_of(source):
+def marks_of(source):
     return {bare_message_id(str(part)) for part in (source or {}).values()}
 
 

@@ -110,10 +110,10 @@ def index(pages, written):
         links = ", ".join(link(name) for name in written[status.number])
         cells = cell(status.number, "th", scope="row") + cell(isolated(pages.stage(status).summary))
         rows.append(cell(cells + cell(STAGES[status.stage][0]) + cell(ends) + cell(links), "tr"))
-    told = f"As of {date_of(pages.at)}. All times are in UTC."
+    message = f"As of {date_of(pages.at)}. All times are in UTC."
     head = ["Resolution", "First choice", "Stage", "Discussion or voting ends", "Files"]
     body = table("The resolutions", head, rows) if rows else paragraph("There is no resolution yet.")
-    return document("Resolutions", "Resolutions", [paragraph(told), body])
+    return document("Resolutions", "Resolutions", [paragraph(message), body])
 
 
 def link(name):

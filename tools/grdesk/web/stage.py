@@ -48,11 +48,11 @@ class Stage:
         return ["<h2>Times</h2>", self.times(), "<h2>Choices</h2>", *self.choices(), *self.amendments()]
 
     def head(self):
-        told, over = STAGES[self.status.stage]
+        description, over = STAGES[self.status.stage]
         span = self.status.voting or self.status.discussion
-        told = over if over and self.at >= span[1] else told
+        description = over if over and self.at >= span[1] else description
         as_of = "" if self.status.stage in ("Closed", "Cancelled") else f" As of {date_of(self.at)}."
-        return paragraph(f'<span id="stage">{told}</span>{as_of}')
+        return paragraph(f'<span id="stage">{description}</span>{as_of}')
 
     def times(self):
         rows = []
@@ -154,8 +154,8 @@ class Stage:
         kind = "a minor" if entry.fields["minor"] == "1" else "a substantial"
         paragraphs = "A.1.5" if kind == "a minor" else "A.1.3"
         name = self.name(self.status.choices[int(choice) - 1])
-        told = f"{name} got {kind} amendment {moment_text(entry).split(' (')[0]} (Constitution, {paragraphs})"
-        return paragraph(f"{told}, and is now {isolated(entry.fields['summary'])}. Before, it was:")
+        message = f"{name} got {kind} amendment {moment_text(entry).split(' (')[0]} (Constitution, {paragraphs})"
+        return paragraph(f"{message}, and is now {isolated(entry.fields['summary'])}. Before, it was:")
 
 
 def text_lines(fields):
