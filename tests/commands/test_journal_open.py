@@ -416,7 +416,7 @@ class Settlements(OpenCase):
             print(json.dumps(sent), file=journal)
         self.comes("/developers", "login=d8&name=Eight&status=current", "ok 4")
         self.comes("/developers", "login=d7&name=Seven&status=current", "ok 5")
-        message = "nothing was sent: find out whether the desk has accepted 4"
+        message = "nothing was sent: find out whether the desk accepted 4"
         reports("due", self.desk.tool("due"), 1, message, "settle 4 accepted, or settle 4 refused: then it is on hold")
         ran = self.desk.tool("settle", "4", "refused")
         reports("settle", ran, 0, "ok\n", "counts as not accepted, and is on hold\n")

@@ -90,8 +90,8 @@ class Files(Written):
 
 
 class Places(Case):
-    """How the files are written: anew, so that nothing is written through a link or into a file of others that has one of
-    their names, and for all to read."""
+    """How the files are written: anew, so that nothing is written through a link or into a file of others that has one
+    of their names, and for all to read."""
 
     def setUp(self):
         self.tool, self.work = loaded("manual"), self.folder()

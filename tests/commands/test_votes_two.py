@@ -1,7 +1,7 @@
 """How gr-desk votes enters the ballots on two votes that are open at once, and end one after the other, from one
 FOLDER. Each ballot is entered on its own vote, at a moment that tells no arrival and is past no end before which it
-came, and each answer is about its own vote. What would put the desk's clock past the end of a vote that is not closed waits, so
-that no ballot on that one is lost, whichever vote is run first."""
+came, and each answer is about its own vote. What would put the desk's clock past the end of a vote that is not closed
+waits, so that no ballot on that one is lost, whichever vote is run first."""
 import copy
 import re
 from urllib.parse import quote

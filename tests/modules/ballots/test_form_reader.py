@@ -1,6 +1,6 @@
 """What is read of a text that has forms of several votes of a desk: that of the vote which is asked for, beside those
-of others. A text that is meant for another vote alone is left to that one, and one that is meant for none is refused. So
-each text is answered by some vote, and by no more than it is meant for."""
+of others. A text that is meant for another vote alone is left to that one, and one that is meant for none is refused.
+So each text is answered by some vote, and by no more than it is meant for."""
 import sys
 from dataclasses import replace
 

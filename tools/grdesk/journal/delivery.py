@@ -164,7 +164,8 @@ class Delivery:
     def check_none_held(self, moment):
         """The --yes of a call is for its date, and gives up no held act. Nor does an act with --give-up wait."""
         if held := self.held_before(moment):
-            message = f"nothing was sent: acts with an earlier date are on hold, {', '.join(each.number for each in held)}"
+            numbers = ", ".join(each.number for each in held)
+            message = f"nothing was sent: acts with an earlier date are on hold, {numbers}"
             raise Refused(f"{message}: first run gr-desk journal due, or gr-desk journal drop")
 
     def held_before(self, moment):

@@ -64,7 +64,7 @@ def check_settled(entries):
     for entry in entries.open:
         if entry.is_held:
             number = entry.number
-            message = f"nothing was sent: find out whether the desk has accepted {number}, and run gr-desk journal settle"
+            message = f"nothing was sent: find out whether the desk accepted {number}, and run gr-desk journal settle"
             raise Refused(f"{message} {number} accepted, or settle {number} refused: then it is on hold again")
 
 

@@ -148,5 +148,6 @@ def number_of(entries, entry, count):
         return free[0]
     if not entries.may_have(entry, count):
         message = f"nothing was changed: {entry.number} cannot be act {count} of the desk"
-        raise Refused(f"{message}: another act has that number, or acts that were sent before it or after it have others")
+        why = "another act has that number, or acts that were sent before it or after it have others"
+        raise Refused(f"{message}: {why}")
     return count

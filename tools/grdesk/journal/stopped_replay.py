@@ -1,5 +1,5 @@
-"""What became of a replay that a stop has cut off, after the journal had its line: whether its copy has the place of the
-desk. The rows of the desk say so. An inode does not, since a file that is put there later may get the same one."""
+"""What became of a replay that a stop has cut off, after the journal had its line: whether its copy has the place of
+the desk. The rows of the desk say so. An inode does not, since a file that is put there later may get the same one."""
 import os
 
 from grdesk.desk.copy import desk_at, private_folder
