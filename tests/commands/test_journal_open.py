@@ -10,9 +10,9 @@ from tests.commands.journal_case import SECRETS, JournalCase, entries_in, is_sil
 from tests.support.case import Case
 from tests.support.journaled import CALL, DISCUSSION, VOTES, Journaled, reports
 from tests.support.program import DAY, LOCAL, PATIENCE, T0, copy_desk, once, receipt, serve
+from grdesk.error import Refused
 from grdesk.journal.entry import Entries, Entry, Fate, UnknownForm, line_of
 from grdesk.journal.open_act import check_settles
-from grdesk.stop import Refused
 
 VARY = ["vary", "1", "days=1"]
 OF_VARY = "the journal has no answer to 4 (vary 1 days=1)"

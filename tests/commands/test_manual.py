@@ -12,7 +12,7 @@ from tests.commands.installed_names import COMMAND_NAMES, COMPLETION, PAGES, SUB
 from tests.support.case import Case
 from tests.support.in_process import loaded, stopped, under_umask
 from tests.support.program import TOP, Ran, expect, runs, tool
-from grdesk.stop import Failed
+from grdesk.error import Failed
 
 EXAMPLES = "check_receipt", "recount"
 TOOLS = [name for name in COMMAND_NAMES if name not in EXAMPLES]

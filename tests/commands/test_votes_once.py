@@ -23,7 +23,7 @@ sys.path.insert(0, str(TOP / "tools"))
 from grdesk import mail_head  # noqa: E402
 from grdesk.ballots import answer  # noqa: E402
 from grdesk.desk import copy  # noqa: E402
-from grdesk.stop import Refused  # noqa: E402
+from grdesk.error import Refused  # noqa: E402
 
 LOGINS = "d1", "d2", "d3", "d4"
 

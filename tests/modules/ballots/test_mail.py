@@ -16,8 +16,8 @@ from tests.support.program import TOP
 
 sys.path.insert(0, str(TOP / "tools"))
 from grdesk.ballots.form_reader import read_form  # noqa: E402
+from grdesk.error import NotRead  # noqa: E402
 from grdesk.mail_head import ALIASES  # noqa: E402
-from grdesk.stop import NotRead  # noqa: E402
 
 HOST = "vote.example.org"
 DATE = "Thu, 15 Jan 2026 02:00:00 +0000"

@@ -5,8 +5,8 @@ import re
 from enum import Enum
 from typing import NamedTuple, Optional
 
+from grdesk.error import NotRead
 from grdesk.output import quoted
-from grdesk.stop import NotRead
 
 WHY_ENCRYPTED = "the mail is encrypted; send the form as plain text, signed or not"
 

@@ -17,7 +17,7 @@ from grdesk.ballots.armour import (
 )
 from grdesk.ballots.form import BEGIN, END
 from grdesk.ballots.mail_part import Part, parts_of
-from grdesk.stop import NotRead
+from grdesk.error import NotRead
 
 ENCRYPTED = ["multipart/encrypted", "application/pgp-encrypted", "application/pkcs7-mime", "application/x-pkcs7-mime"]
 PGP_SIGNATURE = "application/pgp-signature"

@@ -2,10 +2,10 @@
 its parser, and of a text of tools/man/ that says what does not fit the help."""
 import re
 
+from grdesk.error import Failed
 from grdesk.inventory import TOP
 from grdesk.package.commit import last_commit
 from grdesk.package.version import version
-from grdesk.stop import Failed
 
 TEXTS = TOP / "tools" / "man"
 # What groff takes for something else.

@@ -7,9 +7,9 @@ from tests.support.in_process import stopped
 from tests.support.program import T0, TOP
 
 sys.path.insert(0, str(TOP / "tools"))
+from grdesk.error import Refused  # noqa: E402
+from grdesk.journal.comparison import MOST_WAYS, Comparison, MadeDesk, taken_of  # noqa: E402
 from grdesk.journal.entry import Entries, line_of  # noqa: E402
-from grdesk.journal.prefix import MOST_WAYS, Comparison, MadeDesk, taken_of  # noqa: E402
-from grdesk.stop import Refused  # noqa: E402
 
 ROWS = {"desk": {(1,): {"accepted": 4, "clock": T0}}, "resolution": {}, "ballot2": {}}
 UNSETTLED = "nothing was entered: of 1, 2 no answer is kept"
