@@ -139,7 +139,7 @@ SUBJECTS = {
         "commits.rt, CREATE TABLE, stock SQLite"
     ),
     "line of a journal": (
-        "LINES, entry.py, journal.py, timeline.py, hold.py, replay.py, delivery.py, journaled, "
+        "LINES, entry.py, journal.py, listing.py, hold.py, replay.py, delivery.py, journaled, "
         "journal_case.py, json, row.py, Journals"
     ),
     "version of a file": (

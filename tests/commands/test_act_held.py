@@ -81,8 +81,9 @@ class HeldActs(JournalCase):
         desk = self.copy_of(self.desk)
         line = ["journal", "due", "--journal", desk.journal]
         ran = desk.run(*line, environment=failing(self.folder(), lines=2))
-        message = f"nothing more was sent after 5: {desk.journal} cannot be written: No space left on device; 6 is still "
-        reports("due on a full disk", ran, 3, "5: ok 6\n", f"{message}on hold: mend that, and run gr-desk journal due")
+        why = f"{desk.journal} cannot be written: No space left on device"
+        message = f"nothing more was sent after 5: {why}; 6 is still on hold: mend that, and run gr-desk journal due"
+        reports("due on a full disk", ran, 3, "5: ok 6\n", message)
         is_silent("due on a full disk", ran, "nothing was sent")
         reports("the next due", desk.tool("due"), 0, "6: ok 7\n8 (amend")
 

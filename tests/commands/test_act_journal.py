@@ -16,8 +16,8 @@ from threading import Thread
 from tests.commands.journal_case import JournalCase, entries_in, is_silent
 from tests.support.journaled import DISCUSSION, ENDED, WHOLE, Journaled, environment_of, reports
 from tests.support.program import DAY, LOCAL, PATIENCE, T0, TOP, Ran, free_port, make_desk
+from grdesk.error import Failed
 from grdesk.journal.entry import line_of
-from grdesk.stop import Failed
 
 # The file and the log of such a desk have fewer bytes each.
 MOST_OF_A_DESK = 330_000

@@ -7,7 +7,7 @@ from unittest import mock
 from tests.support.ballot_cases import EMPTY, FILLED, LONG, form
 from tests.support.case import Case
 from tests.support.in_process import loaded, said, stopped
-from grdesk.stop import Refused, Wrong
+from grdesk.error import Refused, Wrong
 
 STATUS = f"""\
 Resolution 1

@@ -121,7 +121,8 @@ class Refusals(Sending):
         ran = self.timed.tool(SENT, *self.words, **self.ways, PATH=str(place), TMPDIR=str(small))
         said = ran.err.decode().splitlines()[-1]
         self.assertEqual(ran.status, 3)
-        self.assertRegex(said, f"^gr-desk copy_out: nothing was sent: age .*, and the disk of {small}/gr-desk-[0-9]+ is full$")
+        full = f"the disk of {small}/gr-desk-[0-9]+ is full"
+        self.assertRegex(said, f"^gr-desk copy_out: nothing was sent: age .*, and {full}$")
         self.has_sent()
 
     def test_nothing_is_sent_by_a_program_that_takes_nothing(self):

@@ -170,7 +170,8 @@ class Helps(Case):
                 name = each.option_strings[-1] if each.option_strings else each.metavar or each.dest
                 with self.subTest(words=words, name=name):
                     self.assertTrue(each.help)
-                    self.assertRegex(text, rf"\n  (-h, )?{re.escape(name)}( [A-Z]+)?(\n +| +){re.escape(each.help.split()[0])}")
+                    first = re.escape(each.help.split()[0])
+                    self.assertRegex(text, rf"\n  (-h, )?{re.escape(name)}( [A-Z]+)?(\n +| +){first}")
 
     def test_that_of_a_subcommand_has_the_options_of_its_command(self):
         self.assertIn("\n  --journal FILE ", loaded("journal").parser().subcommands["due"].format_help())

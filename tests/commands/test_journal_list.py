@@ -7,7 +7,7 @@ from tests.support.case import Case
 from tests.support.journaled import CALL, CALLED, CLOSE, DISCUSSION, ENDED, VOTES, Journaled, reports, vote_of
 from tests.support.program import DAY, T0, Ran
 from grdesk.journal.entry import Entries, line_of
-from grdesk.journal.timeline import Listing, running_votes
+from grdesk.journal.listing import Listing, running_votes
 
 LISTS = ["list"], ["list", "1"]
 

@@ -10,9 +10,9 @@ from tests.commands.journal_case import SECRETS, JournalCase, entries_in, is_sil
 from tests.support.case import Case
 from tests.support.journaled import CALL, DISCUSSION, VOTES, Journaled, reports
 from tests.support.program import DAY, LOCAL, PATIENCE, T0, copy_desk, once, receipt, serve
+from grdesk.error import Refused
 from grdesk.journal.entry import Entries, Entry, Fate, UnknownForm, line_of
 from grdesk.journal.open_act import check_settles
-from grdesk.stop import Refused
 
 VARY = ["vary", "1", "days=1"]
 OF_VARY = "the journal has no answer to 4 (vary 1 days=1)"
@@ -416,7 +416,7 @@ class Settlements(OpenCase):
             print(json.dumps(sent), file=journal)
         self.comes("/developers", "login=d8&name=Eight&status=current", "ok 4")
         self.comes("/developers", "login=d7&name=Seven&status=current", "ok 5")
-        message = "nothing was sent: find out whether the desk has accepted 4"
+        message = "nothing was sent: find out whether the desk accepted 4"
         reports("due", self.desk.tool("due"), 1, message, "settle 4 accepted, or settle 4 refused: then it is on hold")
         ran = self.desk.tool("settle", "4", "refused")
         reports("settle", ran, 0, "ok\n", "counts as not accepted, and is on hold\n")

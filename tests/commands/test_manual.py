@@ -12,7 +12,7 @@ from tests.commands.installed_names import COMMAND_NAMES, COMPLETION, PAGES, SUB
 from tests.support.case import Case
 from tests.support.in_process import loaded, stopped, under_umask
 from tests.support.program import TOP, Ran, expect, runs, tool
-from grdesk.stop import Failed
+from grdesk.error import Failed
 
 EXAMPLES = "check_receipt", "recount"
 TOOLS = [name for name in COMMAND_NAMES if name not in EXAMPLES]
@@ -90,8 +90,8 @@ class Files(Written):
 
 
 class Places(Case):
-    """How the files are written: anew, so that nothing is written through a link or into a file of others that has one of
-    their names, and for all to read."""
+    """How the files are written: anew, so that nothing is written through a link or into a file of others that has one
+    of their names, and for all to read."""
 
     def setUp(self):
         self.tool, self.work = loaded("manual"), self.folder()

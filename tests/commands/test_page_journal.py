@@ -5,8 +5,8 @@ from types import SimpleNamespace
 from tests.support.case import Case
 from tests.support.in_process import loaded, stopped
 
+from grdesk.error import Refused  # noqa: E402
 from grdesk.journal.journal import journal_at  # noqa: E402
-from grdesk.stop import Refused  # noqa: E402
 
 CLOSE = {"number": "1", "path": "/resolutions/1/close", "fields": {}, "source": None}
 

@@ -1,7 +1,7 @@
 """What gr-desk votes does once, however many ballots there are. It looks at the desk by one copy and keeps another one,
 and the program runs once for each sheet, once for the copy that is kept, and once for each ballot. It parses each mail
-once, hashes it once, and renders each answer once. If the desk has got acts since the table was made, nothing is left of
-the run; if it only has other bytes, the ballots are entered."""
+once, hashes it once, and renders each answer once. If the desk has got acts since the table was made, nothing is left
+of the run; if it only has other bytes, the ballots are entered."""
 import hashlib
 import os
 import subprocess
@@ -23,7 +23,7 @@ sys.path.insert(0, str(TOP / "tools"))
 from grdesk import mail_head  # noqa: E402
 from grdesk.ballots import answer  # noqa: E402
 from grdesk.desk import copy  # noqa: E402
-from grdesk.stop import Refused  # noqa: E402
+from grdesk.error import Refused  # noqa: E402
 
 LOGINS = "d1", "d2", "d3", "d4"
 
@@ -91,8 +91,8 @@ class Once(Case):
         came = Folder(cls.work / "came", desk)
         came.text("d1", came.filled("123", "tokenA01"), CALLED + HOUR)
         came.mail("d2", mail_of(came.filled("213"), 2, CALLED + HOUR), CALLED + HOUR)
-        came.mbox("d3", mail_of(came.filled("321"), 3, CALLED + HOUR), mail_of(came.filled("12-"), 4, CALLED + 2 * HOUR),
-                  at=CALLED + 3 * HOUR)
+        two = mail_of(came.filled("321"), 3, CALLED + HOUR), mail_of(came.filled("12-"), 4, CALLED + 2 * HOUR)
+        came.mbox("d3", *two, at=CALLED + 3 * HOUR)
         came.text("d4", came.form, CALLED + HOUR)
         cls.made = VotingFolder(desk, came, "--received-by", HOST)
 

@@ -12,8 +12,8 @@ from tests.support.case import Case
 from tests.support.program import TOP
 
 sys.path.insert(0, str(TOP / "tools"))
+from grdesk.error import Refused  # noqa: E402
 from grdesk.new_file import Folder, Readers, check_shared, check_unshared, make_folder, new_file  # noqa: E402
-from grdesk.stop import Refused  # noqa: E402
 
 TEXT, SECRET = b"for all\n", b"the ballots\n"
 TOLD, WHY = "nothing was written", "where all is published"

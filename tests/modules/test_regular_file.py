@@ -15,8 +15,8 @@ from grdesk.ballots.arrival import Arrival, By  # noqa: E402
 from grdesk.ballots.mail import Mail  # noqa: E402
 from grdesk.desk import copy as copies, digest  # noqa: E402
 from grdesk.desk.request import MOST_BYTES  # noqa: E402
+from grdesk.error import Failed, Refused  # noqa: E402
 from grdesk.journal import journal  # noqa: E402
-from grdesk.stop import Failed, Refused  # noqa: E402
 
 # How long something may take that waits for nothing, in seconds.
 SOON = 30

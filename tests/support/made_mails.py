@@ -30,7 +30,7 @@ from tests.support.made_trees import Maker, tree_of
 
 from grdesk.ballots import mail as mails
 from grdesk.ballots.form_reader import read_form
-from grdesk.stop import NotRead
+from grdesk.error import NotRead
 
 # How long a mail may take, in seconds of this process.
 PATIENCE = 1.0

@@ -5,11 +5,11 @@ import sys
 from importlib import import_module
 
 from grdesk.desk.program import program
+from grdesk.error import Failed, Stop, Wrong
 from grdesk.interruption import ENDS, end
 from grdesk.inventory import commands, examples, laid_down
 from grdesk.output import note, running, say
 from grdesk.parser import Parser
-from grdesk.stop import Failed, Stop, Wrong
 
 
 def purpose(path):

@@ -7,8 +7,8 @@ from email.utils import parsedate_to_datetime
 from itertools import islice
 from typing import NamedTuple, Optional
 
+from grdesk.error import NotRead
 from grdesk.output import quoted
-from grdesk.stop import NotRead
 
 # Lines end at LF alone, and a CR before it is no part of one.
 EMPTY_LINE = re.compile(rb"^\r?\n", re.M)

@@ -7,7 +7,7 @@ import stat
 from contextlib import contextmanager, suppress
 from enum import Enum
 
-from grdesk.stop import Refused
+from grdesk.error import Refused
 
 # What ends the name of a file that is not whole yet.
 BEGUN = ".new"

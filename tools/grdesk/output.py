@@ -4,7 +4,7 @@ import sys
 import unicodedata
 from contextlib import suppress
 
-from grdesk.stop import Failed, Refused
+from grdesk.error import Failed, Refused
 
 
 def write(stream, text):

@@ -4,8 +4,8 @@ A command has a `Parser`, and so has each of its subcommands: a line of help for
 to type, and exit statuses. Help, man pages and the completion of words are made of it."""
 import argparse
 
+from grdesk.error import Wrong
 from grdesk.output import say
-from grdesk.stop import Wrong
 
 # The help fits this width, however wide a terminal is. The help of an option begins after so many columns at most.
 WIDTH, INDENT = 80, 24

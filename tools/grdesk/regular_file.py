@@ -2,7 +2,7 @@
 import os
 import stat
 
-from grdesk.stop import Failed
+from grdesk.error import Failed
 
 
 def open_regular(path):

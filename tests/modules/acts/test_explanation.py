@@ -165,7 +165,8 @@ class Ballots(Case):
 
     def test_a_rank_above_the_number_of_places_is_asked_about_and_one_that_equals_it_is_not(self):
         self.assertEqual(len(self.sentences("123")), 4)
-        message = "rank 4 is allowed, but there are only 3 places: is it a typing error? A later ballot replaces this one"
+        asked = "is it a typing error? A later ballot replaces this one"
+        message = f"rank 4 is allowed, but there are only 3 places: {asked}"
         self.assertEqual(self.sentences("124")[-1], message)
 
     def test_whose_vote_it_is_is_told_also_of_a_login_that_is_not_on_the_roll(self):

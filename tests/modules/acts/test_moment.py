@@ -19,7 +19,7 @@ from grdesk.acts.moment import (  # noqa: E402
     span_text,
     until_of,
 )
-from grdesk.stop import Refused, Wrong  # noqa: E402
+from grdesk.error import Refused, Wrong  # noqa: E402
 
 HOUR, MINUTE = 3_600, 60
 # A span is told in days, hours or minutes from two of these on, and what is left over is not told.

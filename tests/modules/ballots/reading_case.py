@@ -11,7 +11,7 @@ sys.path.insert(0, str(TOP / "tools"))
 from grdesk.ballots.form import Form  # noqa: E402
 from grdesk.ballots.form_reader import read_form  # noqa: E402
 from grdesk.ballots.mail import Mail  # noqa: E402
-from grdesk.stop import NotRead  # noqa: E402
+from grdesk.error import NotRead  # noqa: E402
 
 FORM = Form(1, CALLED, ENDED, 4, tuple(PLACES))
 

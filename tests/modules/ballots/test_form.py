@@ -8,7 +8,7 @@ from tests.support.hand_made import VOTING, choice, status
 from tests.support.in_process import stopped
 from tests.support.program import DAY, T0
 from grdesk.ballots.form import Form, folded, form_of, placed_in
-from grdesk.stop import Refused
+from grdesk.error import Refused
 
 FORM = Form(12, VOTING[0], VOTING[1], 16, ("Red", "Green: or Blue", "None of the above"))
 # The lines of which the identifier is the SHA-256, by docs/formats.md: number, begin, days, developers and options.

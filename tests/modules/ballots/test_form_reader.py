@@ -14,7 +14,7 @@ from grdesk.ballots.arrival import arrival_of  # noqa: E402
 from grdesk.ballots.form_reader import OfAnotherVote, read_form  # noqa: E402
 from grdesk.ballots.mail import Mail  # noqa: E402
 from grdesk.desk.sheet import Developer  # noqa: E402
-from grdesk.stop import NotRead  # noqa: E402
+from grdesk.error import NotRead  # noqa: E402
 
 OTHER = replace(FORM, number=2, end=FORM.end + 86_400, summaries=("Blue", "None of the above"))
 UNKNOWN = replace(OTHER, number=3)

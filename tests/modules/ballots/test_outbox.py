@@ -15,7 +15,7 @@ from tests.support.program import TOP
 
 sys.path.insert(0, str(TOP / "tools"))
 from grdesk.ballots.outbox import WRITTEN, Outbox  # noqa: E402
-from grdesk.stop import Failed, Refused  # noqa: E402
+from grdesk.error import Failed, Refused  # noqa: E402
 
 LOGINS = "d1", "d2", "d3"
 # How many bytes a file may have on a disk that is full.

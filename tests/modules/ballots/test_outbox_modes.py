@@ -13,7 +13,7 @@ from tests.support.program import TOP
 
 sys.path.insert(0, str(TOP / "tools"))
 from grdesk.ballots.outbox import Outbox, mail_of  # noqa: E402
-from grdesk.stop import Failed, Refused  # noqa: E402
+from grdesk.error import Failed, Refused  # noqa: E402
 
 # How long something may take that waits for nothing, in seconds.
 SOON = 30

@@ -15,7 +15,7 @@ from tests.support.program import TOP
 sys.path.insert(0, str(TOP / "tools"))
 from grdesk.desk import copy  # noqa: E402
 from grdesk.desk.retention import DatedCopy  # noqa: E402
-from grdesk.stop import Refused  # noqa: E402
+from grdesk.error import Refused  # noqa: E402
 
 PARTS = "desk.db", "desk.db-wal", "desk.db.sha256"
 FILE, LOG = b"a file\n" * 999, b"the head of a log" * 99

@@ -9,7 +9,7 @@ from tests.support.program import TOP
 
 sys.path.insert(0, str(TOP / "tools"))
 from grdesk.desk import copy as copies, sheet  # noqa: E402
-from grdesk.stop import Failed  # noqa: E402
+from grdesk.error import Failed  # noqa: E402
 
 
 class NoFile(Case):

@@ -11,7 +11,7 @@ from tests.support.program import T0, TOP, bytes_of, make_desk, serve
 sys.path.insert(0, str(TOP / "tools"))
 from grdesk.desk import sheet  # noqa: E402
 from grdesk.desk.row import Header  # noqa: E402
-from grdesk.stop import Failed  # noqa: E402
+from grdesk.error import Failed  # noqa: E402
 
 ROLL = "Developers: 0\nCurrent: 0\n"
 REFUSED = "refused 9 NoResolution"

@@ -17,7 +17,7 @@ TOOLS = str(TOP / "tools")
 sys.path.insert(0, TOOLS)
 from grdesk.desk import private_folder as private_places  # noqa: E402
 from grdesk.desk.private_folder import private_folder  # noqa: E402
-from grdesk.stop import Refused  # noqa: E402
+from grdesk.error import Refused  # noqa: E402
 
 STRANGER = 54_321
 # More bytes than any disk has.

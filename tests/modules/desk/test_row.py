@@ -18,7 +18,7 @@ from grdesk.desk import private_folder as private_places  # noqa: E402
 from grdesk.desk.request import request_of  # noqa: E402
 from grdesk.desk.row import header_in, read_from, rows_in  # noqa: E402
 from grdesk.desk.sheet import sheets_of  # noqa: E402
-from grdesk.stop import Failed  # noqa: E402
+from grdesk.error import Failed  # noqa: E402
 
 VOTE = b"login=d1&ranks=123&token=tokenA01"
 

@@ -8,8 +8,8 @@ from tests.support.program import DAY, T0, TOP
 
 sys.path.insert(0, str(TOP / "tools"))
 from grdesk.desk.sheet import Choice, Developer, outcome_of, proposer_of, roll_of, status_of  # noqa: E402
+from grdesk.error import Failed  # noqa: E402
 from grdesk.output import counted, shown  # noqa: E402
-from grdesk.stop import Failed  # noqa: E402
 
 ROLL = """\
 Developers: 4

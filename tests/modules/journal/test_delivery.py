@@ -8,10 +8,10 @@ from tests.support.in_process import said, stopped
 from grdesk.acts.act import Act
 from grdesk.desk.address import Port
 from grdesk.desk.request import NoResponse, Response
+from grdesk.error import Failed
 from grdesk.journal import delivery
 from grdesk.journal.entry import Fate
 from grdesk.journal.journal import journal_at
-from grdesk.stop import Failed
 
 CLOSE = Act("/resolutions/1/close", {})
 BEFORE = 1_768_435_200

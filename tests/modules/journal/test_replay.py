@@ -8,8 +8,8 @@ from tests.support.in_process import stopped, under_umask
 from tests.support.program import TOP
 
 sys.path.insert(0, str(TOP / "tools"))
+from grdesk.error import Failed  # noqa: E402
 from grdesk.journal.replay import copy_closed  # noqa: E402
-from grdesk.stop import Failed  # noqa: E402
 
 DESK, OTHER = b"the ballots\n", b"another file\n"
 

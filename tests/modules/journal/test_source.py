@@ -12,8 +12,8 @@ from tests.support.program import TOP
 
 sys.path.insert(0, str(TOP / "tools"))
 from grdesk.ballots.mail import Mail  # noqa: E402
+from grdesk.error import Wrong  # noqa: E402
 from grdesk.journal.source import source_of  # noqa: E402
-from grdesk.stop import Wrong  # noqa: E402
 
 # How long something may take that waits for nothing, in seconds.
 SOON = 30

@@ -9,9 +9,9 @@ from tests.support.in_process import stopped
 from tests.support.program import TOP
 
 sys.path.insert(0, str(TOP / "tools"))
+from grdesk.error import Failed  # noqa: E402
 from grdesk.package import control  # noqa: E402
 from grdesk.package.archive import PackedFile  # noqa: E402
-from grdesk.stop import Failed  # noqa: E402
 
 
 C, M, GCC = "libc.so.6", "libm.so.6", "libgcc_s.so.1"

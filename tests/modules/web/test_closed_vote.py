@@ -7,7 +7,7 @@ from tests.support.in_process import stopped
 from tests.support.program import TOP
 
 sys.path.insert(0, str(TOP / "tools"))
-from grdesk.stop import Failed  # noqa: E402
+from grdesk.error import Failed  # noqa: E402
 from grdesk.web.closed_vote import vote_of  # noqa: E402
 
 RECEIPTS = "a" * 64, "b" * 64, "c" * 64

@@ -4,7 +4,7 @@ from tests.support.case import Case
 from tests.support.hand_made import tested, vote
 from tests.support.html_tables import table_in, tables_in
 from tests.support.in_process import stopped
-from grdesk.stop import Failed
+from grdesk.error import Failed
 from grdesk.web.matrix import matrix
 
 NAMES = ["Red", "Green", "Blue", "None of the above"]

@@ -10,7 +10,7 @@ from tests.support.program import T0, TOP
 
 sys.path.insert(0, str(TOP / "tools"))
 from grdesk.desk.sheet import Status  # noqa: E402
-from grdesk.stop import Refused, Wrong  # noqa: E402
+from grdesk.error import Refused, Wrong  # noqa: E402
 from grdesk.web.site import publish  # noqa: E402
 
 # Three developers, and a closed vote with so many of them as there are ballots.

@@ -4,8 +4,8 @@ import re
 from grdesk.acts.act import NUMBER
 from grdesk.dates import dated
 from grdesk.desk.limit import DAY
+from grdesk.error import Refused, Wrong
 from grdesk.output import counted
-from grdesk.stop import Refused, Wrong
 
 # The beginning of 2000. Whoever gives an earlier date has hardly meant it.
 EARLIEST_MEANT = 946_684_800

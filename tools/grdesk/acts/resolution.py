@@ -5,8 +5,8 @@ import re
 from grdesk.acts.refusal import MEANINGS
 from grdesk.desk.address import given_address
 from grdesk.desk.sheet import NotGiven, status_of
+from grdesk.error import Refused, Wrong
 from grdesk.output import name_of_tool
-from grdesk.stop import Refused, Wrong
 
 # The arguments of a command about one resolution, and the help of each.
 DESK_AND_R = (("DESK", "the file of the desk; not with --port or --socket"), ("R", "the number of the resolution"))

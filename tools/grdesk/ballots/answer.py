@@ -44,9 +44,9 @@ def refused_text(ballot, when=""):
 
 
 class Answer:
-    """An answer to a voter: what it reports of these ballots, and its mail, which is made when it is first asked for. It
-    is known by its digest, also if the file of a mail that is refused has another time since. Of the ballots that were
-    entered the last one counts, and so it is the one that is reported."""
+    """An answer to a voter: what it reports of these ballots, and its mail, which is made when it is first asked for.
+    It is known by its digest, also if the file of a mail that is refused has another time since. Of the ballots that
+    were entered the last one counts, and so it is the one that is reported."""
 
     def __init__(self, ballots, form, domain):
         self.ballots, self.form = ballots, form

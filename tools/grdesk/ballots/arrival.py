@@ -12,7 +12,7 @@ from grdesk.acts.refusal import MEANINGS
 from grdesk.ballots.form_reader import FilledForm, OfAnotherVote, read_form
 from grdesk.ballots.mail import Mail, mails_at
 from grdesk.ballots.mailbox import is_kind, is_of_mails
-from grdesk.stop import Failed, NotRead
+from grdesk.error import Failed, NotRead
 
 LOGIN = re.compile("[a-z0-9][a-z0-9._-]{0,31}", re.ASCII)
 ENDS = ".txt", ".eml", ".mbox"

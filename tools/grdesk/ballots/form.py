@@ -8,8 +8,8 @@ from grdesk.dates import date_of
 from grdesk.desk.limit import DAY
 from grdesk.desk.rank import DEFAULT_OPTION, NO_RANK, rank_number
 from grdesk.desk.sheet import status_of, statuses_of
+from grdesk.error import Refused
 from grdesk.output import shown
-from grdesk.stop import Refused
 
 # What stands around the lines that a voter fills in. Neither begins with a hyphen, before which a signature in the text
 # would put another one.

@@ -9,8 +9,8 @@ from grdesk.acts.refusal import MEANINGS
 from grdesk.ballots.form import BEGIN, END, IDENTIFIER, TOKEN
 from grdesk.desk.rank import NO_RANK, RANKS
 from grdesk.desk.token import TOKEN_FORM
+from grdesk.error import NotRead
 from grdesk.output import quoted
-from grdesk.stop import NotRead
 
 # A blank is a space or a tab, and nothing else: so it is for what verifies a signature, too.
 BLANKS = " \t"

@@ -6,8 +6,8 @@ from typing import NamedTuple, Optional
 
 from grdesk.ballots.mailbox import MOST_BYTES, Item, items_at
 from grdesk.ballots.signed_text import Written, written_in_mail, written_in_text
+from grdesk.error import NotRead
 from grdesk.journal.source import source_of_mail
-from grdesk.stop import NotRead
 
 TWO_IDS = "the mail has two different fields Message-ID"
 TOO_LARGE = f"the mail has more than {MOST_BYTES:,} bytes; send only the form"

@@ -7,9 +7,9 @@ from dataclasses import dataclass
 from functools import cached_property
 from typing import Optional
 
+from grdesk.error import NotRead
 from grdesk.mail_head import Head, decoded
 from grdesk.output import quoted
-from grdesk.stop import NotRead
 
 MOST_PARTS, MOST_LEVELS = 500, 30
 # No more bytes are decoded of attached mails, each of which may have another one.

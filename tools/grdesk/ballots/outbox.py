@@ -7,8 +7,8 @@ from contextlib import suppress
 from email.message import EmailMessage
 from email.policy import default
 
+from grdesk.error import Failed, Refused
 from grdesk.new_file import BEGUN, Folder, naming, write_all
-from grdesk.stop import Failed, Refused
 
 # Lines of a mail that are not folded: up to so many characters one may have (RFC 5322, 2.1.1).
 POLICY = default.clone(max_line_length=998, cte_type="8bit")

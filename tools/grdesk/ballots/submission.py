@@ -11,10 +11,10 @@ from grdesk.desk.address import Address
 from grdesk.desk.file import DeskFile
 from grdesk.desk.room import why_no_room
 from grdesk.desk.token import new_token
+from grdesk.error import Failed, Refused, Unsent
 from grdesk.journal.delivery import enter_kept, send_kept, unsent
 from grdesk.journal.journal import Journal
 from grdesk.output import counted, note, shown
-from grdesk.stop import Failed, Refused, Unsent
 
 
 @dataclass

@@ -10,10 +10,10 @@ from grdesk.desk.address import add_address
 from grdesk.desk.rank import DEFAULT_OPTION
 from grdesk.desk.request import MOST_BYTES
 from grdesk.desk.token import new_token
+from grdesk.error import Wrong
 from grdesk.journal.delivery import check_words, deliver
 from grdesk.output import is_at_terminal, say
 from grdesk.parser import ADDRESS, COPIES, JOURNAL, Parser
-from grdesk.stop import Wrong
 
 # Two lines of a vote have fewer bytes, unless they are wrong.
 MOST_OF_A_VOTE = 4_096

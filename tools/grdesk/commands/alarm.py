@@ -6,9 +6,9 @@ import socket
 import subprocess
 from email.message import EmailMessage
 
+from grdesk.error import Failed, Wrong
 from grdesk.output import note
 from grdesk.parser import Parser
-from grdesk.stop import Failed, Wrong
 
 # Where programs of mail stand that users have not among theirs.
 PLACES = os.pathsep.join([os.environ.get("PATH", os.defpath), "/usr/sbin", "/usr/lib"])

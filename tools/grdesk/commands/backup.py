@@ -7,9 +7,9 @@ from grdesk.desk.change import is_changed
 from grdesk.desk.copy import copy_to, desk_at, new_place
 from grdesk.desk.digest import digests_at
 from grdesk.desk.retention import base_of, copies_in, copies_until, name_at, surplus
+from grdesk.error import Refused, Wrong
 from grdesk.output import note, say
 from grdesk.parser import Parser
-from grdesk.stop import Refused, Wrong
 
 
 def place_of(to):

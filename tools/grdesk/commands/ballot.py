@@ -8,9 +8,9 @@ from grdesk.ballots.form_reader import read_form
 from grdesk.ballots.mail import mails_at
 from grdesk.desk.address import add_address
 from grdesk.desk.sheet import roll_of, sheets_of
+from grdesk.error import Failed, NotRead, Refused, Wrong
 from grdesk.output import note, say, shown
 from grdesk.parser import ADDRESS, COPIES, Parser
-from grdesk.stop import Failed, NotRead, Refused, Wrong
 
 
 def write_form(arguments, _):

@@ -6,10 +6,10 @@ from grdesk.acts.moment import late_clock
 from grdesk.dates import MOST_SECONDS, dated, moment_number
 from grdesk.desk.copy import desk_at
 from grdesk.desk.row import Header, header_in, read_from
+from grdesk.error import Failed
 from grdesk.journal.journal import lacking
 from grdesk.output import counted, note, say
 from grdesk.parser import COPIES, JOURNAL, Parser
-from grdesk.stop import Failed
 
 
 def is_something(name):

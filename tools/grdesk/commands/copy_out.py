@@ -8,9 +8,9 @@ from contextlib import suppress
 from grdesk.desk.change import is_whole
 from grdesk.desk.copy import folder_outside, odd_part, parts_at, private_folder
 from grdesk.desk.retention import base_of, copies_until
+from grdesk.error import Failed, Refused
 from grdesk.output import say
 from grdesk.parser import COPIES, Parser
-from grdesk.stop import Failed, Refused
 
 WHOLE = 16 << 20
 

@@ -7,10 +7,10 @@ from contextlib import suppress
 from pathlib import Path
 
 from grdesk.desk.program import BUILT
+from grdesk.error import Failed, Wrong
 from grdesk.inventory import TOP, files
 from grdesk.output import note, say
 from grdesk.parser import Parser
-from grdesk.stop import Failed, Wrong
 
 FOLDERS = "bin", "tools", "examples", "docs", "man/man1", "completion", "systemd"
 # Where the units run nothing, since they have ProtectHome=yes.

@@ -5,18 +5,18 @@ from grdesk.acts.act import NUMBER
 from grdesk.desk.copy import copy_desk, private_folder
 from grdesk.desk.file import DeskFile
 from grdesk.desk.row import accepted_in, header_in, rows_in
+from grdesk.error import Refused, Wrong
 from grdesk.journal.check import print_differences
+from grdesk.journal.comparison import Comparison, taken_of
 from grdesk.journal.entry import NUMBER_AT_DESK, OF_AN_ENTRY
 from grdesk.journal.hold import enter_due, take_back
 from grdesk.journal.journal import NO_JOURNAL, journal_at, journal_name
+from grdesk.journal.listing import Listing, moment_text, running_votes
 from grdesk.journal.open_act import keep_accepted, say_settled
-from grdesk.journal.prefix import Comparison, taken_of
 from grdesk.journal.replay import Replay, close_by_roll, lacks_of, read_closed, steps_after, take_place
 from grdesk.journal.source import source_of
-from grdesk.journal.timeline import Listing, moment_text, running_votes
 from grdesk.output import counted, note, say, say_line, shown
 from grdesk.parser import COPIES, JOURNAL, Parser
-from grdesk.stop import Refused, Wrong
 
 
 def named(arguments):

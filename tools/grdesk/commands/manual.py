@@ -3,13 +3,13 @@ import os
 from importlib import import_module
 from pathlib import Path
 
+from grdesk.error import Failed
 from grdesk.inventory import commands, laid_down
 from grdesk.new_file import Folder, Readers
 from grdesk.package.completion import completion
 from grdesk.package.help_text import help_of_examples, help_of_program
 from grdesk.package.man_page import pages
 from grdesk.parser import Parser
-from grdesk.stop import Failed
 
 
 def parsers():

@@ -7,6 +7,7 @@ import tempfile
 from pathlib import Path
 
 from grdesk.desk.program import newer_source, program
+from grdesk.error import Failed
 from grdesk.interruption import undisturbed
 from grdesk.inventory import TOP
 from grdesk.new_file import Folder, Readers
@@ -18,7 +19,6 @@ from grdesk.package.control import control_files, papers
 from grdesk.package.elf import Program
 from grdesk.package.version import version
 from grdesk.parser import Parser
-from grdesk.stop import Failed
 
 TOOLCHAIN = re.compile("`(rattle-kit-[a-z0-9]+ logic [0-9a-f]+)`")
 

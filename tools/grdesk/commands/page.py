@@ -6,10 +6,10 @@ from grdesk.dates import moment_number
 from grdesk.desk.address import add_address
 from grdesk.desk.copy import desk_at
 from grdesk.desk.sheet import sheets_of
+from grdesk.error import Refused, Wrong
 from grdesk.journal.journal import journal_at
 from grdesk.output import say
 from grdesk.parser import ADDRESS, COPIES, Parser
-from grdesk.stop import Refused, Wrong
 from grdesk.web.page import Pages
 from grdesk.web.site import publish
 

@@ -1,8 +1,8 @@
 """Put a copy of a desk in the place of a desk that is gone"""
 from grdesk.desk.copy import copy_to, desk_at, is_locked, is_open_without_name, log_of, new_place
+from grdesk.error import Refused
 from grdesk.output import say
 from grdesk.parser import Parser
-from grdesk.stop import Refused
 
 
 def parser():

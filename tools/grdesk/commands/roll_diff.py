@@ -5,9 +5,9 @@ import sys
 
 from grdesk.desk.request import MOST_BYTES
 from grdesk.desk.sheet import add_desk, roll_of, sheets_of
+from grdesk.error import Failed, Wrong
 from grdesk.output import note, say, shown
 from grdesk.parser import ADDRESS, COPIES, Parser
-from grdesk.stop import Failed, Wrong
 
 HEADER = ["login", "name", "status"]
 

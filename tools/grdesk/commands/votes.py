@@ -24,13 +24,13 @@ from grdesk.desk.file import DeskFile
 from grdesk.desk.retention import KEPT_BEFORE_VOTES, name_before_votes, surplus_before_votes
 from grdesk.desk.row import Header, header_in
 from grdesk.desk.sheet import roll_of, sheets_of
+from grdesk.error import Failed, Refused, Wrong
 from grdesk.journal.delivery import check_has_all, unsent
 from grdesk.journal.entry import Fate
 from grdesk.journal.journal import NO_JOURNAL, journal_at, journal_name
 from grdesk.journal.open_act import settle_open_acts
 from grdesk.output import confirm, counted, is_at_terminal, note, say, shown
 from grdesk.parser import ADDRESS, COPIES, JOURNAL, Parser
-from grdesk.stop import Failed, Refused, Wrong
 
 # Of the hosts that mails name no more are reported, and of each no more characters.
 MOST_HOSTS, MOST_OF_A_HOST = 5, 100

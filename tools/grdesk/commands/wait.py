@@ -4,8 +4,8 @@ import time
 
 from grdesk.desk.address import add_address, address_of
 from grdesk.desk.request import NoResponse, exchange, request_of
+from grdesk.error import Failed, Wrong
 from grdesk.parser import ADDRESS, Parser
-from grdesk.stop import Failed, Wrong
 
 # How long it waits if no N is given, and between two tries, in seconds.
 SECONDS, PAUSE = 60, 0.1

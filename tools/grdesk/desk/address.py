@@ -5,7 +5,7 @@ import re
 import socket
 from typing import NamedTuple, Union
 
-from grdesk.stop import Wrong
+from grdesk.error import Wrong
 
 LOCAL = "127.0.0.1"
 # The system takes no longer name of a socket, in bytes.

@@ -18,11 +18,11 @@ from typing import NamedTuple, Optional
 from grdesk.desk.digest import LEAST_LOG_BYTES, check_digests, digests_at, write_digests
 from grdesk.desk.private_folder import INDEX, PREFIX, private_folder
 from grdesk.desk.program import program
+from grdesk.error import Failed, Refused, Wrong
 from grdesk.interruption import undisturbed
 from grdesk.new_file import Folder, check_shared, naming, new_file, write_all
 from grdesk.output import hand_on, note
 from grdesk.regular_file import open_regular
-from grdesk.stop import Failed, Refused, Wrong
 
 # What the program says of a desk of an earlier version, and of a file that is not there.
 TOO_OLD = b"fault F7 TooOld\n"

@@ -5,10 +5,10 @@ import hashlib
 import os
 import re
 
+from grdesk.error import Failed
 from grdesk.new_file import naming, new_file, write_all
 from grdesk.output import note
 from grdesk.regular_file import open_regular
-from grdesk.stop import Failed
 
 # A log that is shorter, as that of a desk that was closed, has nothing that the file lacks.
 LEAST_LOG_BYTES = 56

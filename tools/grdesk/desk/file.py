@@ -6,9 +6,9 @@ from grdesk.desk.program import program
 from grdesk.desk.request import answer_in
 from grdesk.desk.room import why_no_room
 from grdesk.desk.row import header_in, read_from, rows_in, voting_in
+from grdesk.error import Failed, Unsent
 from grdesk.interruption import undisturbed
 from grdesk.output import hand_on
-from grdesk.stop import Failed, Unsent
 
 
 class NotOpened(Unsent):

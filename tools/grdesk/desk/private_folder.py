@@ -11,10 +11,10 @@ import tempfile
 from contextlib import ExitStack, contextmanager
 from pathlib import Path
 
+from grdesk.error import Refused
 from grdesk.interruption import undisturbed
 from grdesk.new_file import Folder, write_all
 from grdesk.output import note
-from grdesk.stop import Refused
 
 PREFIX = ".desk-"
 # Their names, as `tempfile` draws them.

@@ -9,7 +9,7 @@ from typing import NamedTuple
 from grdesk.desk.copy import log_of
 from grdesk.desk.digest import digests_at
 from grdesk.desk.limit import DAY
-from grdesk.stop import Refused
+from grdesk.error import Refused
 
 # What the name of a desk is followed by in those of the copies that `votes` makes before it sends anything, and how
 # many of them it keeps.

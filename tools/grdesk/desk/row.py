@@ -7,7 +7,7 @@ from typing import NamedTuple
 
 from grdesk.desk.copy import copy_desk, folder_outside, room_of
 from grdesk.desk.private_folder import is_full, private_folder
-from grdesk.stop import Failed
+from grdesk.error import Failed
 
 # The key of each table, and its further columns, as docs/formats.md has them.
 TABLES = {

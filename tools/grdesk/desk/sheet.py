@@ -13,8 +13,8 @@ from grdesk.desk.limit import REMEDY
 from grdesk.desk.program import program
 from grdesk.desk.request import NoResponse, answer_in, exchange, request_of
 from grdesk.desk.row import header_in, rows_in
+from grdesk.error import Failed, Refused, Wrong
 from grdesk.output import counted, hand_on, shown
-from grdesk.stop import Failed, Refused, Wrong
 
 # How long an answer may take, in seconds: others may be served before, and silent ones for five seconds each.
 PATIENCE = 60

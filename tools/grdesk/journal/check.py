@@ -4,9 +4,9 @@ import subprocess
 from grdesk.desk.copy import copy_desk, desk_at
 from grdesk.desk.program import program
 from grdesk.desk.row import accepted_in, faults_in, rows_in
+from grdesk.journal.comparison import Comparison, MadeDesk
 from grdesk.journal.journal import lacks_acts
 from grdesk.journal.open_act import keep_accepted, where_seen
-from grdesk.journal.prefix import Comparison, MadeDesk
 from grdesk.journal.replay import check_whole, lacks_of, unanswered, way_to_settle
 from grdesk.output import note, say, say_line, shown
 

@@ -11,13 +11,13 @@ from grdesk.dates import dated
 from grdesk.desk.address import address_of, given_address
 from grdesk.desk.file import DeskFile, NotOpened
 from grdesk.desk.request import NoResponse, exchange
+from grdesk.error import Failed, Refused, Unsent, Wrong
 from grdesk.interruption import undisturbed
 from grdesk.journal.entry import Fate
 from grdesk.journal.journal import Journal, journal_at, journal_name, lacks_acts
 from grdesk.journal.open_act import report_open_acts, settle_open_acts
 from grdesk.journal.source import FATES, acts_from, source_of
 from grdesk.output import confirm, is_at_terminal, note, say
-from grdesk.stop import Failed, Refused, Unsent, Wrong
 
 
 def check_words(arguments):
@@ -164,7 +164,8 @@ class Delivery:
     def check_none_held(self, moment):
         """The --yes of a call is for its date, and gives up no held act. Nor does an act with --give-up wait."""
         if held := self.held_before(moment):
-            message = f"nothing was sent: acts with an earlier date are on hold, {', '.join(each.number for each in held)}"
+            numbers = ", ".join(each.number for each in held)
+            message = f"nothing was sent: acts with an earlier date are on hold, {numbers}"
             raise Refused(f"{message}: first run gr-desk journal due, or gr-desk journal drop")
 
     def held_before(self, moment):

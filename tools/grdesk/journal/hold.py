@@ -7,11 +7,11 @@ from grdesk.acts.explanation import Explanation
 from grdesk.acts.moment import is_voting_over, late_call
 from grdesk.dates import dated
 from grdesk.desk.file import DeskFile
+from grdesk.error import Failed, Refused, Unsent
 from grdesk.journal.delivery import check_has_all, enter_kept
 from grdesk.journal.entry import Fate
 from grdesk.journal.open_act import settle_open_acts
 from grdesk.output import note, say_line
-from grdesk.stop import Failed, Refused, Unsent
 
 
 def is_waiting(entry):
@@ -64,7 +64,7 @@ def check_settled(entries):
     for entry in entries.open:
         if entry.is_held:
             number = entry.number
-            message = f"nothing was sent: find out whether the desk has accepted {number}, and run gr-desk journal settle"
+            message = f"nothing was sent: find out whether the desk accepted {number}, and run gr-desk journal settle"
             raise Refused(f"{message} {number} accepted, or settle {number} refused: then it is on hold again")
 
 

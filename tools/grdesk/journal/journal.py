@@ -7,11 +7,11 @@ import stat
 from contextlib import contextmanager, suppress
 
 from grdesk.desk.copy import desk_at, sync
+from grdesk.error import Failed, Refused, Stop, Unsent, Wrong
 from grdesk.journal.entry import Entries, UnknownForm, line_of
 from grdesk.journal.stopped_replay import became_of
 from grdesk.new_file import is_trusted, write_all
 from grdesk.output import note
-from grdesk.stop import Failed, Refused, Stop, Unsent, Wrong
 
 # What each line begins with.
 HEAD = b'{"form": '

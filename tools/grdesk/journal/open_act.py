@@ -2,12 +2,12 @@
 was sent to a port is known by the rows of the desk, or from the Secretary, and never by a count."""
 from grdesk.dates import dated
 from grdesk.desk.copy import private_folder
+from grdesk.error import Failed, Refused
+from grdesk.journal.comparison import Comparison
 from grdesk.journal.entry import Fate, UnknownForm, line_of
-from grdesk.journal.prefix import Comparison
+from grdesk.journal.listing import tells_of_votes
 from grdesk.journal.replay import way_to_settle
-from grdesk.journal.timeline import tells_of_votes
 from grdesk.output import note
-from grdesk.stop import Failed, Refused
 
 
 def settle_open_acts(journal, header, desk):
@@ -148,5 +148,6 @@ def number_of(entries, entry, count):
         return free[0]
     if not entries.may_have(entry, count):
         message = f"nothing was changed: {entry.number} cannot be act {count} of the desk"
-        raise Refused(f"{message}: another act has that number, or acts that were sent before it or after it have others")
+        why = "another act has that number, or acts that were sent before it or after it have others"
+        raise Refused(f"{message}: {why}")
     return count

@@ -11,10 +11,10 @@ from grdesk.desk.digest import digest_of, has_frames
 from grdesk.desk.file import DeskFile
 from grdesk.desk.request import Response, request_of
 from grdesk.desk.row import MOMENTS, VOTING, accepted_in, rows_in
+from grdesk.error import Failed, Refused
 from grdesk.journal.entry import ACCEPTED, Entry
-from grdesk.journal.timeline import running_votes, tells_of_votes
+from grdesk.journal.listing import running_votes, tells_of_votes
 from grdesk.output import counted, note
-from grdesk.stop import Failed, Refused
 
 
 @dataclass

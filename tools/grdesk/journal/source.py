@@ -1,11 +1,11 @@
 """Where acts came from: what a journal keeps of that, and which of its acts came from there too."""
 import hashlib
 
+from grdesk.error import Failed, Wrong
 from grdesk.journal.entry import Fate
 from grdesk.mail_head import Head
 from grdesk.output import shown
 from grdesk.regular_file import open_regular
-from grdesk.stop import Failed, Wrong
 
 # What is said of an act that came from the same source as another one.
 FATES = {

@@ -1,14 +1,14 @@
-"""What became of a replay that a stop has cut off, after the journal had its line: whether its copy has the place of the
-desk. The rows of the desk say so. An inode does not, since a file that is put there later may get the same one."""
+"""What became of a replay that a stop has cut off, after the journal had its line: whether its copy has the place of
+the desk. The rows of the desk say so. An inode does not, since a file that is put there later may get the same one."""
 import os
 
 from grdesk.desk.copy import desk_at, private_folder
 from grdesk.desk.digest import digest_of
 from grdesk.desk.row import accepted_in, read_from, rows_in
+from grdesk.error import Refused
+from grdesk.journal.comparison import Comparison
 from grdesk.journal.entry import Entries, UnknownForm, line_of
-from grdesk.journal.prefix import Comparison
 from grdesk.output import note
-from grdesk.stop import Refused
 
 
 def became_of(entries):

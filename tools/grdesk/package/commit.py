@@ -4,8 +4,8 @@ import time
 from functools import lru_cache
 from typing import NamedTuple, Optional
 
+from grdesk.error import Failed
 from grdesk.inventory import TOP
-from grdesk.stop import Failed
 
 SEPARATOR = "\0"
 

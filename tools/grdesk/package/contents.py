@@ -5,10 +5,10 @@ import re
 from pathlib import Path
 
 from grdesk.desk.program import program
+from grdesk.error import Failed
 from grdesk.inventory import TOP, files
 from grdesk.package.archive import LINK_MODE, PackedFile, zipped
 from grdesk.package.commit import listed
-from grdesk.stop import Failed
 
 NAME = "gr-desk"
 HOME = f"usr/lib/{NAME}"

@@ -4,8 +4,8 @@ import subprocess
 from typing import NamedTuple
 
 from grdesk.desk.program import program
+from grdesk.error import Failed
 from grdesk.inventory import EXAMPLES, examples
-from grdesk.stop import Failed
 
 
 class Help(NamedTuple):

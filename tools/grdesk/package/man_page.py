@@ -1,11 +1,11 @@
-"""Man pages: one of the program with its subcommands, of its own help, and one of each tool. That of a tool is made of its
-parser, and of a text of tools/man/ that says what does not fit the help."""
+"""Man pages: one of the program with its subcommands, of its own help, and one of each tool. That of a tool is made of
+its parser, and of a text of tools/man/ that says what does not fit the help."""
 import re
 
+from grdesk.error import Failed
 from grdesk.inventory import TOP
 from grdesk.package.commit import last_commit
 from grdesk.package.version import version
-from grdesk.stop import Failed
 
 TEXTS = TOP / "tools" / "man"
 # What groff takes for something else.
@@ -19,7 +19,7 @@ VARIABLES = {
     "COPY_KEY": "The public key that a copy is encrypted to.",
     "COPY_TO": "The line of the shell that sends it.",
     "XDG_RUNTIME_DIR": "The folder in which a private copy of the desk is made while the tool runs, if it has room.",
-    "TMPDIR": "Otherwise the copy is made in the folder gr-desk-UID of TMPDIR, or of /tmp, which only its owner may enter.",
+    "TMPDIR": "Otherwise the copy is made in its folder gr-desk-UID, or that of /tmp, which only its owner may enter.",
 }
 
 
@@ -29,8 +29,8 @@ def escaped(line):
 
 
 class Flow:
-    """A text in the language of man pages. Its paragraphs flow, and an indented line stays as it is. One with a gap is a
-    word with what is said of it, which goes on in lines that are indented as far."""
+    """A text in the language of man pages. Its paragraphs flow, and an indented line stays as it is. One with a gap is
+    a word with what is said of it, which goes on in lines that are indented as far."""
 
     def __init__(self, text):
         self.made, self.mode = [], None
@@ -98,7 +98,8 @@ def page_of_program(main, *subcommands):
 def page_of_example(example):
     """The page of an example. Its help says first what it is for, and then by which words."""
     purpose, usage, description = example.text.split("\n\n", 2)
-    parts = [*head(example.name, " ".join(purpose.split())), *synopsis(line.strip().split("   ")[0] for line in usage.split("\n"))]
+    lines = (line.strip().partition("   ")[0] for line in usage.split("\n"))
+    parts = [*head(example.name, " ".join(purpose.split())), *synopsis(lines)]
     return [*parts, ".SH DESCRIPTION", *lines_of(description)]
 
 

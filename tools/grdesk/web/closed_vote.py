@@ -2,7 +2,7 @@
 from typing import NamedTuple, Optional
 
 from grdesk.desk.sheet import NUMBER, TIME, SheetLines, outcome_in
-from grdesk.stop import Failed
+from grdesk.error import Failed
 
 
 class OptionTest(NamedTuple):

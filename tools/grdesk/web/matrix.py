@@ -1,7 +1,7 @@
 """The pairwise counts of all options of a closed vote, made from the ballots of its tally. Those of kept options are
 held against the result."""
 from grdesk.desk.rank import preference_of
-from grdesk.stop import Failed
+from grdesk.error import Failed
 from grdesk.web.html import cell, isolated, table
 
 # Where there are more options, the columns stand in blocks of so many.

@@ -8,9 +8,9 @@ from grdesk.ballots.electorate import electorate_of
 from grdesk.ballots.form import form_of
 from grdesk.ballots.outbox import check_apart
 from grdesk.dates import date_of
+from grdesk.error import Failed, Refused
 from grdesk.new_file import Folder, Readers, check_unshared, is_trusted, make_folder
 from grdesk.output import counted, note, shown
-from grdesk.stop import Failed, Refused
 from grdesk.web.html import cell, document, isolated, paragraph, table
 from grdesk.web.stage import STAGES
 

@@ -8,7 +8,7 @@ from grdesk.dates import date_of
 from grdesk.desk.quorum import sponsors_wanted
 from grdesk.desk.rank import DEFAULT_OPTION
 from grdesk.desk.sheet import Status
-from grdesk.journal.timeline import choice_in, moment_text
+from grdesk.journal.listing import choice_in, moment_text
 from grdesk.output import counted
 from grdesk.web.html import cell, document, isolated, paragraph, table, text_block
 

@@ -7,9 +7,9 @@ from tests.support.in_process import stopped
 from tests.support.program import T0, TOP
 
 sys.path.insert(0, str(TOP / "tools"))
+from grdesk.error import Refused  # noqa: E402
+from grdesk.journal.comparison import MOST_WAYS, Comparison, MadeDesk, taken_of  # noqa: E402
 from grdesk.journal.entry import Entries, line_of  # noqa: E402
-from grdesk.journal.prefix import MOST_WAYS, Comparison, MadeDesk, taken_of  # noqa: E402
-from grdesk.stop import Refused  # noqa: E402
 
 ROWS = {"desk": {(1,): {"accepted": 4, "clock": T0}}, "resolution": {}, "ballot2": {}}
 UNSETTLED = "nothing was entered: the journal has no answer to 1, 2, and nobody can tell which the desk has"
@@ -57,7 +57,8 @@ class Ways(Case):
 
     def test_if_no_way_has_the_rows_of_the_desk_the_differences_of_the_first_are_named(self):
         why = self.refused(["developer login d1: name"], ["developer login d2: name"])
-        message = "nothing was entered: DESK is no copy of the desk of JOURNAL, since the first acts there make other rows"
+        why = "the first acts there make other rows"
+        message = f"nothing was entered: DESK is no copy of the desk of JOURNAL, since {why}"
         self.assertIn(f"{message}: developer login d1: name. Put a copy", why)
 
     def test_if_no_way_is_left_by_the_answers_nobody_can_tell(self):

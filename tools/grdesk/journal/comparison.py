@@ -11,7 +11,9 @@ from grdesk.desk.digest import check_digests
 from grdesk.desk.file import DeskFile
 from grdesk.desk.program import program
 from grdesk.desk.row import VOTING, accepted_in, differences, header_in, rows_in
+from grdesk.error import Failed, Refused
 from grdesk.journal.entry import Entries
+from grdesk.journal.listing import running_votes
 from grdesk.journal.replay import (
     Replay,
     Step,
@@ -23,9 +25,7 @@ from grdesk.journal.replay import (
     unanswered,
     way_to_settle,
 )
-from grdesk.journal.timeline import running_votes
 from grdesk.output import shown
-from grdesk.stop import Failed, Refused
 
 # In how many ways it is tried which open acts have the numbers of which no act is known.
 MOST_WAYS = 16
