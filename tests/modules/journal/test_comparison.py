@@ -20,7 +20,7 @@ class Compared(Comparison):
 
     differences = ()
 
-    def made(self):
+    def made_desks(self):
         return [MadeDesk(taken, "made", lines) for taken, lines in zip(self.ways(), self.differences)]
 
 
@@ -67,7 +67,7 @@ class Ways(Case):
     def test_more_ways_than_are_tried_are_not_tried_in_part(self):
         compared = Comparison(sent(MOST_WAYS + 1), ROWS, "made", 3, [4])
         self.assertEqual(len(compared.ways()), MOST_WAYS + 1)
-        self.assertEqual(compared.made(), [])
+        self.assertEqual(compared.made_desks(), [])
 
     def test_a_copy_with_more_acts_than_the_desk_is_refused(self):
         why = stopped(Refused, taken_of, self.compared([], first=5), "JOURNAL", "DESK", "COPY")
