@@ -186,7 +186,7 @@ class ProxyOfSystemd(BehindSocket):
         super().setUpClass()
         proxy = systemd_proxy()
         if proxy is None:
-            raise SkipTest("the proxy of systemd is not there")
+            raise SkipTest("systemd-socket-proxyd is not installed")
         cls.begin(proxy)
 
 

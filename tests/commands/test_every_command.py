@@ -140,11 +140,22 @@ class Helps(Case):
     def test_it_is_printed_and_leaves_nothing(self):
         place = self.folder()
         with unchanged("help", place):
-            for words, parser in self.parsers():
-                for line in [*words, "--help"], [*words, "-h"], [*words, "a", "--help"], [*words, "-h", "a"]:
-                    with self.subTest(line=line):
-                        expected = Ran(0, parser.format_help().encode(), b"")
-                        self.assertEqual(tool(*line, cwd=place), expected)
+            for name in COMMANDS:
+                with self.subTest(name=name):
+                    expected = Ran(0, loaded(name).parser().format_help().encode(), b"")
+                    self.assertEqual(tool(name, "--help", cwd=place), expected)
+
+    def test_that_of_a_subcommand_is_printed_wherever_the_option_is(self):
+        expected = Ran(0, loaded("act").parser().subcommands["vote"].format_help().encode(), b"")
+        for line in "act vote --help", "act --help vote", "act --desk desk.db vote -h", "act vote 1 --help login=d1":
+            with self.subTest(line=line):
+                self.assertEqual(tool(*line.split()), expected)
+
+    def test_it_is_printed_beside_words_that_are_wrong(self):
+        for line in "act a --help", "journal a -h", "ballot --help --frob":
+            with self.subTest(line=line):
+                expected = loaded(line.split()[0]).parser().format_help().encode()
+                self.assertEqual(tool(*line.split()), Ran(0, expected, b""))
 
     def test_it_fits_a_screen(self):
         for words, parser in self.parsers():

@@ -300,7 +300,7 @@ class Units(Installed):
 
     def test_the_units_pass_systemd_analyze(self):
         if not shutil.which("systemd-analyze"):
-            self.skipTest("no systemd-analyze is there")
+            self.skipTest("systemd-analyze is not installed")
         for name, place in self.places.items():
             with self.subTest(folder=name):
                 ran = runs(["systemd-analyze", "verify", *(place / each for each in UNITS)])

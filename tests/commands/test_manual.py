@@ -204,7 +204,7 @@ class Manual(Written):
 
     def test_man_shows_each_page_without_a_warning_in_80_columns(self):
         if not shutil.which("man"):
-            self.skipTest("man is not installed (Debian: man-db)")
+            self.skipTest("man is not installed")
         environment = os.environ | {"LC_ALL": "C.UTF-8", "MANWIDTH": "80", "MAN_KEEP_FORMATTING": ""}
         for path in PAGES.values():
             with self.subTest(path=path):

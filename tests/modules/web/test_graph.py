@@ -151,7 +151,7 @@ class Drawings(Case):
     def test_a_browser_measures_that_no_text_meets_another_one_or_leaves_the_picture(self):
         browser = next(filter(None, map(shutil.which, ("chromium", "chromium-browser", "google-chrome"))), None)
         if not browser:
-            self.skipTest("no Chromium is there to measure them")
+            self.skipTest("Chromium is not installed")
         work = self.folder()
         place = work / "drawings.html"
         page = document("x", "x", [*(drawn(count, 1).svg for count in COUNTS), MEASURE])
