@@ -57,9 +57,8 @@ class Ways(Case):
 
     def test_if_no_way_has_the_rows_of_the_desk_the_differences_of_the_first_are_named(self):
         why = self.refused(["developer login d1: name"], ["developer login d2: name"])
-        why = "the first acts there make other rows"
-        message = f"nothing was entered: DESK is no copy of the desk of JOURNAL, since {why}"
-        self.assertIn(f"{message}: developer login d1: name. Put a copy", why)
+        self.assertIn("nothing was entered: DESK is no copy of the desk of JOURNAL, since the first acts", why)
+        self.assertIn("make other rows: developer login d1: name. Put a copy", why)
 
     def test_if_no_way_is_left_by_the_answers_nobody_can_tell(self):
         self.assertIn(UNSETTLED, self.refused())
