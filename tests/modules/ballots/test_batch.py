@@ -331,7 +331,7 @@ class ReplacedBeforeTheyWereSent(TestCase):
         journal.vote(file_came("321", 2), "tokenB02")
         [known] = judged([moved]).ballots
         batch = stands(self, [moved, file_came("321", 7)], [Standing.REPLACED, Standing.COUNTED], journal,
-                       told={known.digest()})
+                       reported={known.digest()})
         self.assertEqual(batch.replaced_now(), [])
 
     def test_another_text_of_its_message_id_is_undecided(self):

@@ -59,7 +59,7 @@ class StandIn(Case):
         with said() as message:
             why = stopped(Failed, self.sheets.sheet, "status", 1)
             self.assertEqual(message.lines(), ["fault F1 Memory"])
-        self.assertEqual(why, "the desk gave no sheet, and said what stands above")
+        self.assertEqual(why, "the desk gave no sheet, and said what is above")
 
     def test_a_program_that_cannot_be_run_is_named(self):
         self.program.write_text("")
