@@ -151,6 +151,10 @@ class Helps(Case):
             with self.subTest(line=line):
                 self.assertEqual(tool(*line.split()), expected)
 
+    def test_the_value_of_an_option_is_no_subcommand(self):
+        expected = loaded("journal").parser().subcommands["list"].format_help().encode()
+        self.assertEqual(tool(*"journal --journal due list --help".split()), Ran(0, expected, b""))
+
     def test_it_is_printed_beside_words_that_are_wrong(self):
         for line in "act a --help", "journal a -h", "ballot --help --frob":
             with self.subTest(line=line):

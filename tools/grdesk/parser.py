@@ -138,7 +138,15 @@ class Parser(Reader):
 
     def of_words(self):
         """The parser whose help is asked for: that of the subcommand that is among the words, if there is one."""
-        return next((self.subcommands[word] for word in self.words if word in self.subcommands), self)
+        words = iter(self.words)
+        for word in words:
+            if word in self.subcommands:
+                return self.subcommands[word]
+            option = self.options._option_string_actions.get(word)
+            if option and option.nargs != 0:
+                # The value of an option may be the name of a subcommand too.
+                next(words, None)
+        return self
 
     def own_actions(self):
         """The arguments and options of this parser, as its help lists them, without those of its command."""
