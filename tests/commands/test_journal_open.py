@@ -359,7 +359,7 @@ class Settlements(OpenCase):
             (["4", "maybe"], 2, "not 'maybe'"),
             (["4", "accepted", "--as", "04"], 2, "is like 7, and not '04'"),
             (["x", "accepted"], 2, "is like 7, or v7 for a vote, and not 'x'"),
-            (["4"], 2, "the words of settle are N accepted, or N refused"),
+            (["4"], 2, "the following arguments are required: accepted|refused"),
         ]:
             with self.subTest(words=words):
                 reports(f"settle {words}", self.leaves("settle", *words), status, message)

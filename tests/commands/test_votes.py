@@ -294,9 +294,9 @@ class Entered(Case):
         vote.came.mail("d1", mail_of(vote.came.filled("3-1"), 101, CALLED + DAY), CALLED)
         hold = "--desk", vote.desk.file, "--journal", vote.journal, "--at", ENDED - HOUR, "--hold", "2h"
         tool("act", *hold, "developer", "login=d99", "name=X", "status=current")
-        before = vote.kept_options()
+        before = vote.kept()
         vote.reports("a run with a held act", "nothing was sent: acts are on hold, 1, and would be lost")
-        self.assertEqual(vote.kept_options(), before)
+        self.assertEqual(vote.kept(), before)
         self.assertEqual(tool("journal", "drop", "--journal", vote.journal, "1").status, 0)
         vote.reports("a run after the held act was dropped", "1 vote of 1 entered")
 
@@ -337,17 +337,17 @@ class Entered(Case):
             form = f"login=x{number}&name=X&status=retired"
             once(vote.desk.file, CALLED + DAY, "/developers", form, f"ok {number + 1}")
         self.assertEqual(accepted_of(vote.desk.file), count)
-        before = vote.kept_options()
+        before = vote.kept()
         vote.reports("a run over a desk that was put back", "nothing was sent: ", " lacks the ballot of 7 voters that ",
                      "gr-desk journal check shows how the two differ")
-        self.assertEqual(vote.kept_options(), before)
+        self.assertEqual(vote.kept(), before)
 
     def test_nothing_is_sent_after_the_close(self):
         vote = self.vote.copied(self.folder())
         vote.desk.enter(ENDED, ("/resolutions/1/close", "", ""))
-        before = vote.kept_options()
+        before = vote.kept()
         vote.reports("a run after the close", "nothing was sent: resolution 1 is closed")
-        self.assertEqual(vote.kept_options(), before)
+        self.assertEqual(vote.kept(), before)
 
 
 class NotEntered(Case):

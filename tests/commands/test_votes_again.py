@@ -193,10 +193,10 @@ class Again(Case):
                 words = "--desk", vote.desk.file, "--journal", vote.journal, "--at", at, "--source", source
                 with open(given, "rb") as stream:
                     self.assertEqual(tool("act", *words, "vote", 1, "login=d7", stdin=stream).status, 0)
-                before = vote.kept_options()
+                before = vote.kept()
                 vote.reports(f"a run after an act from {source}", "There was no vote to send", SAME_ID,
                              f"d7, The Name of 7: {vote.came.place}/d7.eml arrived ")
-                self.assertEqual(vote.kept_options(), before)
+                self.assertEqual(vote.kept(), before)
 
     def test_ballots_that_another_journal_does_not_have_are_warned_of(self):
         other = self.vote.work / "other"

@@ -50,8 +50,8 @@ class InPart(Case):
     def test_a_port_that_is_gone_in_the_midst_stops_the_run_which_says_what_was_sent(self):
         vote = self.vote.copied(self.folder())
         with serve(vote.desk.file, 99) as served:
-            # The sheets of the resolution and of the roll are asked for before the first vote.
-            ran = self.run_failing(vote, "--port", served.port, connections=4)
+            # Five sheets are asked for before the first vote: of the roll, and of this resolution and the others.
+            ran = self.run_failing(vote, "--port", served.port, connections=7)
         self.check_stopped(vote, ran, 2, f"port {served.port} of 127.0.0.1: Connection refused")
         self.assertEqual(len(vote.ballots()), 2)
 
