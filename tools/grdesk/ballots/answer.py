@@ -14,8 +14,8 @@ from grdesk.journal.entry import arrived
 ANSWERED = Standing.COUNTED, Standing.REFUSED
 
 HOW_CHECKED = f"""\
-prints the receipt if the token is yours. Once the vote is closed and its tally is published, the tally has the receipt
-in a line after your ranks, in which {LETTERS}. Until then nothing of the ballots is shown. Whoever reads this mail can
+prints the receipt, where the token is yours. Once the vote is closed and its tally published, the receipt stands there
+in a line after your ranks, in which {LETTERS}. Until then nothing of the ballots is told. Whoever reads this mail can
 find your ballot there, so keep it to yourself."""
 
 
