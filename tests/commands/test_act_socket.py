@@ -15,8 +15,8 @@ from tests.commands.private_network import behind_socket, namespace_words, syste
 from tests.support.called import Called
 from tests.support.case import Case
 from tests.support.journaled import accepted_of, environment_of, rows_of
-from tests.support.program import DAY, LOCAL, PATIENCE, TOP, Ran, build, compile_tools, fail, free_port
-from tests.support.program import receipt, started, tool
+from tests.support.program import DAY, LOCAL, PATIENCE, TOP, Ran, build, compile_tools, fail
+from tests.support.program import receipt, tool
 
 # The moment of the acts. The vote was called an hour before, since gr-desk votes asks the machine's clock.
 AT = int(time.time())
@@ -249,26 +249,3 @@ class Sockets(ToolCase):
             thread.join(PATIENCE)
         self.assertEqual(ran, Ran(0, b"ok 1\n", b""))
         self.assertEqual(has_ended, [False], "whether the tool ended its side before")
-
-
-class Waits(ToolCase):
-    """gr-desk wait ends when the desk answers, and not before."""
-
-    def test_a_wait_for_nobody_ends_in_time(self):
-        port = free_port()
-        ran = tool("wait", "--port", port, "--seconds", 1)
-        message = f"gr-desk wait: port {port} of {LOCAL} did not answer in time, which is 1 s: Connection refused\n"
-        self.assertEqual(ran, Ran(3, b"", message.encode()))
-
-    def test_a_wait_for_a_desk_ends_when_that_answers_by_one_connection(self):
-        file, port, quiet = Called.made(self.folder(), begin=BEGIN).file, free_port(), subprocess.DEVNULL
-        words = [TOP / "tools" / "gr-desk", "wait", "--port", str(port), "--seconds", "60"]
-        with subprocess.Popen(words, stdin=subprocess.DEVNULL) as waits:
-            try:
-                time.sleep(0.5)
-                self.assertIsNone(waits.poll(), "a wait before there is a desk")
-                with started(["serve", file, "--port", port, "--count", 1], stdin=quiet, stdout=quiet) as desk:
-                    self.assertEqual(waits.wait(PATIENCE), 0, "a wait for a desk")
-                    self.assertEqual(desk.wait(PATIENCE), 0, "serve, after the one connection that it took")
-            finally:
-                waits.kill()

@@ -41,3 +41,15 @@ def unchanged(what, place):
     held = found_in(place)
     yield
     expect(f"what is there after {what}", found_in(place), held)
+
+
+def no_log(copy):
+    """What restore warns of if a copy has no log."""
+    warning = f"warning: {copy} has no log beside it; if it was copied without its log, acts are missing"
+    return line_of("restore", warning)
+
+
+def no_digest(copy):
+    """What restore warns of if a copy has no digests."""
+    warning = f"warning: {copy}.sha256 is not there, so nothing tells whether {copy} is as it was copied"
+    return line_of("restore", warning)
