@@ -13,7 +13,7 @@ WIDTH, INDENT = 80, 24
 ADDRESS, JOURNAL = ["GR_DESK_PORT", "GR_DESK_SOCKET"], ["GR_DESK_JOURNAL"]
 # Where the private copies lie that a command reads a desk from.
 COPIES = ["XDG_RUNTIME_DIR", "TMPDIR"]
-STATUSES = ((0, "done"), (1, "refused"), (2, "wrong words"), (3, "a fault; a line on error output says which"))
+STATUSES = ((0, "done"), (1, "refused"), (2, "wrong arguments"), (3, "a fault; a line on error output says which"))
 
 
 class Once(argparse.Action):

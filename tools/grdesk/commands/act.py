@@ -143,7 +143,7 @@ LOGIN = "the login of a developer"
 HELP_OF_ACTS = {
     "developer": (
         "set a developer of the roll",
-        {"login": LOGIN, "name": "of at most 80 characters", "status": "current or retired"},
+        {"login": LOGIN, "name": "the full name, at most 80 characters", "status": "one of: current, retired"},
     ),
     "import": ("set the developers of the roll file on standard input", {}),
     "propose": ("propose a new resolution, with its first choice", CHOICE),
@@ -166,26 +166,26 @@ HELP_OF_ACTS = {
     ),
     "vary": (
         "vary the end of the discussion",
-        {"days": "-7 to 7, from the usual end; replaces what was said before"},
+        {"days": "days added to the usual end, -7 to 7; replaces any earlier"},
     ),
     "call": ("call for votes", {"days": "how long votes are taken: 7 to 21"}),
-    "vote": ("enter a vote; standard input has ranks and token", {"login": "the login of the voter"}),
+    "vote": ("enter a vote: standard input has the ranks, then the token", {"login": "the login of the voter"}),
     "close": ("close the vote, and determine the outcome", {}),
     "cast": ("cast the casting vote", {"place": "the place of the option that wins"}),
 }
 EXAMPLES = {
-    "developer": "developer login=ann name='Ann Other' status=current",
+    "developer": "developer login=ann name=Ann status=current",
     "import": "import < roll.csv",
-    "propose": "propose author=ann summary=Red text=@red.txt ratio=1",
-    "choice": "choice 1 author=bob summary=Blue text=@blue.txt ratio=1",
+    "propose": "propose author=ann summary=Red text=@a ratio=1",
+    "choice": "choice 1 author=bo summary=Blue text=@b ratio=1",
     "sponsor": "sponsor 1 choice=2 login=ann",
     "unsponsor": "unsponsor 1 choice=2 login=ann",
     "withdraw": "withdraw 1 choice=2",
     "adopt": "adopt 1 choice=2 author=ann",
-    "amend": "amend 1 choice=2 minor=0 summary=Navy text=@navy.txt",
+    "amend": "amend 1 choice=2 minor=0 summary=Navy text=@c",
     "vary": "vary 1 days=-3",
     "call": "call 1 days=14",
-    "vote": "vote 1 login=ann",
+    "vote": "vote 1 login=ann < ballot.txt",
     "close": "close 1",
     "cast": "cast 1 place=2",
 }
@@ -199,9 +199,9 @@ def parser():
         examples=["gr-desk act --desk desk.db sponsor 1 choice=1 login=ann"],
         statuses=[
             (0, "the desk accepted the act, or it is on hold"),
-            (1, "the desk refused it, or something spoke against sending it"),
-            (2, "wrong words, or wrong input"),
-            (3, "a fault, a lost request, or another process has the desk open"),
+            (1, "refused, by the desk or by a check before it was sent"),
+            (2, "wrong arguments, or wrong input"),
+            (3, "failed, or no answer: look at the desk before you send it again"),
         ],
         environment=ADDRESS + JOURNAL + COPIES,
     )
@@ -209,19 +209,19 @@ def parser():
         words = "".join(f" {field}=" for field in ACTS[name][1])
         number = [("R", "the number of the resolution")] if "{r}" in ACTS[name][0] else []
         line = f"[OPTION ..]{' R' * len(number)}{words}{' < roll.csv' * (name == 'import')}"
-        act = command.add_command(name, purpose, [line], examples=[f"gr-desk act {EXAMPLES[name]}"])
+        act = command.add_command(name, purpose, [line], examples=[f"gr-desk act --port 8123 {EXAMPLES[name]}"])
         act.add_words(*number, *((f"{field}=", text) for field, text in fields.items()))
     command.add_argument("--desk", metavar="FILE", help="the file of the desk, if no `serve` has it open")
     add_address(command)
-    command.add_argument("--at", type=moment_number, metavar="DATE", help="when the act was done (default: now)")
-    command.add_flag("--ahead", help="allow a DATE that is ahead of a clock, for a rehearsal")
+    command.add_argument("--at", type=moment_number, metavar="DATE", help="with --desk: its date, like 2026-01-14T21:07:00Z")
+    command.add_flag("--ahead", help="with --desk: allow a future DATE, for a rehearsal")
     command.add_argument("--journal", metavar="FILE", help="keep the act and its answer in FILE")
     command.add_argument("--source", metavar="TEXT", help="where the act came from: a Message-ID, or @FILE of a mail")
-    command.add_argument("--hold", type=duration, metavar="DURATION", help="keep it in the journal so long: 24h, 2d")
-    command.add_argument("--hold-until", type=moment_number, metavar="DATE", help="keep it there until DATE")
-    command.add_flag("--yes", help="send it although the tool would ask first")
-    command.add_flag("--give-up", help="send it although the desk lacks acts of its journal")
-    command.add_flag("--explain", help="by a port: also say what the answer means")
+    command.add_argument("--hold", type=duration, metavar="DURATION", help="with a journal: put it on hold for 24h, 2d, ..")
+    command.add_argument("--hold-until", type=moment_number, metavar="DATE", help="with a journal: put it on hold until DATE")
+    command.add_flag("--yes", help="send it unasked, even if acts on hold are lost by it")
+    command.add_flag("--give-up", help="with --desk: give up acts that the desk lacks")
+    command.add_flag("--explain", help="with --port or --socket: also explain the answer")
     return command
 
 

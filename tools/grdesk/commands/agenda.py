@@ -1,4 +1,4 @@
-"""Say what may be done on a desk now, what waits, and what comes next"""
+"""List what can be done on a desk now, what waits, and what comes next"""
 import time
 
 from grdesk.acts.moment import late_clock
@@ -219,7 +219,7 @@ def parser():
         statuses=[
             (0, "printed"),
             (1, "--journal names the journal of another desk"),
-            (2, "wrong words"),
+            (2, "wrong arguments"),
             (3, "a sheet could not be read; a line says why"),
             (4, "with --due: something may be done now"),
         ],

@@ -1,4 +1,4 @@
-"""Log that a unit of systemd failed, and mail it to root"""
+"""Log that a systemd unit failed, and mail root"""
 import os
 import re
 import shutil
@@ -57,7 +57,7 @@ def parser():
         __doc__,
         ["UNIT"],
         examples=["gr-desk alarm gr_desk.service"],
-        statuses=[(0, "done"), (2, "wrong words"), (3, "a mail could not be sent; a line says why")],
+        statuses=[(0, "done"), (2, "wrong arguments"), (3, "a mail could not be sent; a line says why")],
     )
     command.add_argument("unit", type=unit_name, metavar="UNIT", help="the unit that failed")
     return command

@@ -75,15 +75,15 @@ def parser():
         examples=["gr-desk backup desk.db copy.db", "gr-desk backup --keep 30 desk.db backups"],
         statuses=[
             (0, "the copy is whole, and on the disk"),
-            (1, "something has its name already"),
-            (2, "wrong words"),
+            (1, "a file with that name exists already"),
+            (2, "wrong arguments"),
             (3, "failed; a line says why, and there is no copy"),
         ],
     )
     command.add_argument("desk", metavar="DESK", help="the file of the desk")
     command.add_argument("to", metavar="TO", help="the file to make; with --keep or --thin a folder")
     command.add_argument("--keep", type=keep_number, metavar="K", help="name the copy by its time; keep the K newest")
-    command.add_flag("--thin", help="the same if the desk changed; keep fewer copies the older they are")
+    command.add_flag("--thin", help="copy only if the desk changed; thin out older copies")
     command.add_flag("--verbose", help="say how often the copy had to be begun again")
     return command
 

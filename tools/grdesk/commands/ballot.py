@@ -77,8 +77,8 @@ def parser():
         examples=["gr-desk ballot form desk.db 1 > form.txt"],
         statuses=[
             (0, "written, or read"),
-            (1, "no ballot yet, a form is refused, or something is passed over"),
-            (2, "wrong words"),
+            (1, "no call for votes yet, a form is refused, or a mail is skipped"),
+            (2, "wrong arguments"),
             (3, "a sheet or a file could not be read; a line says why"),
         ],
         environment=ADDRESS + COPIES,

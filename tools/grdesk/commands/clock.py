@@ -58,14 +58,14 @@ def parser():
         statuses=[
             (0, "no warning"),
             (1, "a clock is ahead, or the desk lacks acts of its journal"),
-            (2, "wrong words"),
+            (2, "wrong arguments"),
             (3, "the desk or its journal could not be read; a line says why"),
         ],
         environment=JOURNAL + COPIES,
     )
     command.add_argument("desk", metavar="DESK", help="the file of the desk; it need not be there yet")
     command.add_argument("--at", type=moment_number, metavar="DATE", help="compare this date too")
-    command.add_argument("--journal", metavar="FILE", help="look whether the desk has all acts of this journal")
+    command.add_argument("--journal", metavar="FILE", help="check that the desk has all acts of this journal")
     return command
 
 

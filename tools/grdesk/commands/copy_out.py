@@ -116,8 +116,8 @@ def parser():
         examples=["gr-desk copy_out desk.db backups"],
         statuses=[
             (0, "sent"),
-            (1, "COPY_KEY or COPY_TO is not set, or there is no copy"),
-            (2, "wrong words"),
+            (1, "COPY_KEY (whom to encrypt to) or COPY_TO is not set, or no copy"),
+            (2, "wrong arguments"),
             (3, "failed; a line says why"),
         ],
         environment=["COPY_KEY", "COPY_TO"] + COPIES,

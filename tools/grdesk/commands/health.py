@@ -1,4 +1,4 @@
-"""Say whether a desk that is served is well"""
+"""Check that a desk is served, has room, and has fresh copies"""
 import os
 import time
 
@@ -81,7 +81,7 @@ def parser():
         statuses=[
             (0, "all is well"),
             (1, "a line says what is not"),
-            (2, "wrong words"),
+            (2, "wrong arguments"),
             (3, "the desk or its copies could not be read; a line says why"),
         ],
         environment=ADDRESS + COPIES,

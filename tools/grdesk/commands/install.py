@@ -24,7 +24,7 @@ def parser():
         __doc__,
         ["PREFIX"],
         examples=["gr-desk install /opt/gr-desk"],
-        statuses=[(0, "all of it is there"), (2, "wrong words"), (3, "failed; a line says why")],
+        statuses=[(0, "all of it is there"), (2, "wrong arguments"), (3, "failed; a line says why")],
     )
     command.add_argument("prefix", metavar="PREFIX", help="the folder; it is made, or what it has of the desk replaced")
     return command

@@ -184,9 +184,9 @@ def parser():
         ["[--journal FILE] COMMAND .."],
         examples=["gr-desk journal --journal journal list 1"],
         statuses=[
-            (0, "done; of due also: nothing is due yet"),
-            (1, "refused, something is in the way, or check found a difference"),
-            (2, "wrong words"),
+            (0, "done"),
+            (1, "refused, in the way of something, or check found a difference"),
+            (2, "wrong arguments"),
             (3, "failed; a line says why"),
         ],
         environment=JOURNAL + COPIES,
@@ -202,17 +202,17 @@ def parser():
 
 def add_list(command):
     what = "print what was entered, and what was answered"
-    parser = command.add_command("list", what, ["[R]"], examples=["gr-desk journal list 1"])
+    parser = command.add_command("list", what, ["[R]"], examples=["gr-desk journal --journal journal list 1"])
     parser.add_argument("resolution", metavar="R", nargs="?", help="only the acts on this one, with its texts")
 
 
 def add_replay(command):
     line = "[JOURNAL] DESK [OPTION ..]"
     example = "gr-desk journal replay journal desk.db --dry-run"
-    parser = command.add_command("replay", "enter what a desk lacks, after a restore", [line], examples=[example])
+    parser = command.add_command("replay", "bring a desk that was restored up to date from its journal", [line], examples=[example])
     add_journal_and_desk(parser)
     parser.add_flag("--dry-run", help="say what would be entered, and enter nothing")
-    parser.add_argument("--without", metavar="N", type=number_of_act, help="enter all but the act N")
+    parser.add_argument("--without", metavar="N", type=number_of_act, help="skip act N, for example a close entered by mistake")
 
 
 def add_check(command):
@@ -222,21 +222,21 @@ def add_check(command):
 
 
 def add_settle(command):
-    what, lines = "say how an act ended whose answer was lost", ["N accepted [--as COUNT]", "N refused"]
-    parser = command.add_command("settle", what, lines, examples=["gr-desk journal settle 7 accepted"])
+    what, lines = "record what the desk did with an act whose answer was lost", ["N accepted [--as COUNT]", "N refused"]
+    parser = command.add_command("settle", what, lines, examples=["gr-desk journal --journal journal settle 7 accepted"])
     add_number(parser)
-    parser.add_argument("said", metavar="accepted|refused", help="what became of it")
-    parser.add_argument("--as", metavar="COUNT", dest="count", type=number_at_desk, help="COUNT of its `ok COUNT`")
+    parser.add_argument("said", metavar="accepted|refused", help="what status or roll says that the desk did")
+    parser.add_argument("--as", metavar="COUNT", dest="count", type=number_at_desk, help="its number on the desk, if settle asks for it")
 
 
 def add_due(command):
     what = "enter the acts on hold whose time has come"
-    parser = command.add_command("due", what, ["[--yes]"], examples=["gr-desk journal due"])
-    parser.add_flag("--yes", help="also a call of which all of the time for votes is over")
+    parser = command.add_command("due", what, ["[--yes]"], examples=["gr-desk journal --journal journal due"])
+    parser.add_flag("--yes", help="also enter a call whose voting period is over")
 
 
 def add_drop(command):
-    example = "gr-desk journal drop 7 --source @objection.eml"
+    example = "gr-desk journal --journal journal drop 7 --source @objection.eml"
     parser = command.add_command("drop", "take back an act that is on hold", ["N [--source TEXT]"], examples=[example])
     add_number(parser)
     parser.add_argument("--source", metavar="TEXT", help="where the objection came from: a Message-ID, or @FILE")
@@ -249,7 +249,7 @@ def add_number(parser):
 def add_journal_and_desk(parser):
     parser.add_argument("journal_first", metavar="JOURNAL", nargs="?", help="the journal, instead of --journal")
     parser.add_argument("desk", metavar="DESK", help="the file of the desk")
-    what = "an earlier copy of this desk, if the journal lacks its first acts"
+    what = "an older copy of DESK, if the journal lacks the first acts"
     parser.add_argument("--from", metavar="COPY", dest="from_copy", help=what)
 
 

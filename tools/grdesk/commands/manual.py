@@ -50,7 +50,7 @@ def parser():
         __doc__,
         ["FOLDER"],
         examples=["gr-desk manual /tmp/pages && man -l /tmp/pages/man/man1/gr-desk-act.1"],
-        statuses=[(0, "written"), (2, "wrong words"), (3, "failed; a line says why")],
+        statuses=[(0, "written"), (2, "wrong arguments"), (3, "failed; a line says why")],
     )
     command.add_argument("folder", metavar="FOLDER", help="gets man/man1/ and completion/; it is made if need be")
     return command

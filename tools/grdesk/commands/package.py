@@ -95,7 +95,7 @@ def parser():
         __doc__,
         ["FOLDER"],
         examples=["gr-desk package /tmp/packages"],
-        statuses=[(0, "made"), (2, "wrong words"), (3, "failed; a line says why")],
+        statuses=[(0, "made"), (2, "wrong arguments"), (3, "failed; a line says why")],
     )
     command.add_argument("folder", metavar="FOLDER", help="gets the package, and a file with its SHA-256")
     return command

@@ -21,12 +21,13 @@ def parser():
         [
             "[--journal FILE] [--at DATE] DESK R > page.html",
             "[--journal FILE] [--at DATE] DESK --all FOLDER [--voters]",
+            "[--port P | --socket PATH] [--at DATE] R > page.html",
         ],
         examples=["gr-desk page desk.db 1 > page.html", "gr-desk page desk.db --all /var/www/votes"],
         statuses=[
             (0, "all was written"),
-            (1, "no such resolution, no list of voters, or something in the way"),
-            (2, "wrong words"),
+            (1, "no such resolution, a list of voters left out, or a bad FOLDER"),
+            (2, "wrong arguments"),
             (3, "a sheet was not read, or a file not written; a line says why"),
         ],
         environment=ADDRESS + COPIES,

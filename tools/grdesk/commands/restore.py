@@ -13,13 +13,13 @@ def parser():
         examples=["gr-desk restore copy.db desk.db"],
         statuses=[
             (0, "the desk is there, and opens"),
-            (1, "something is in the way, or the copy is not as its digest says"),
-            (2, "wrong words"),
+            (1, "COPY is in use or damaged, or DESK already exists"),
+            (2, "wrong arguments"),
             (3, "failed; a line says why"),
         ],
     )
     command.add_argument("copy", metavar="COPY", help="what gr-desk backup made; it stays as it is")
-    command.add_argument("desk", metavar="DESK", help="the name of the desk; nothing may have it yet")
+    command.add_argument("desk", metavar="DESK", help="the file to make; it must not exist yet")
     return command
 
 

@@ -15,12 +15,12 @@ def parser():
         statuses=[
             (0, "printed"),
             (1, "the vote is not closed, or there is no such resolution"),
-            (2, "wrong words"),
+            (2, "wrong arguments"),
             (3, "the desk could not be read; a line says why"),
         ],
         environment=COPIES,
     )
-    command.add_argument("desk", metavar="DESK", help="the file of the desk; a port does not tell who voted")
+    command.add_argument("desk", metavar="DESK", help="the file of the desk; `serve` does not say who voted")
     command.add_argument("resolution", metavar="R", type=resolution_number, help="the number of the resolution")
     return command
 

@@ -303,22 +303,22 @@ def parser():
     command = Parser(
         "votes",
         __doc__,
-        ["[OPTION ..] DESK R FOLDER"],
-        examples=["gr-desk votes --received-by mx.example.org desk.db 1 ballots"],
+        ["[OPTION ..] DESK R FOLDER", "[OPTION ..] --port P R FOLDER"],
+        examples=["gr-desk votes --journal journal desk.db 1 ballots"],
         statuses=[
             (0, "each ballot was entered, now or before, or replaced since"),
-            (1, "one was not, FOLDER has strays, or something is in the way"),
-            (2, "wrong words"),
+            (1, "a ballot was left out or refused, or a file was skipped"),
+            (2, "wrong arguments"),
             (3, "failed; a line says why, and the next run goes on from there"),
         ],
         environment=ADDRESS + JOURNAL + COPIES,
     )
     command.add_words(*DESK_AND_R, ("FOLDER", "has LOGIN.eml, .txt, .mbox or a Maildir LOGIN for each voter"))
     add_address(command)
-    command.add_argument("--received-by", metavar="HOST", help="a mail arrived when HOST says so in Received")
-    command.add_argument("--domain", type=domain_name, metavar="DOMAIN", help="the voters are LOGIN@DOMAIN")
+    command.add_argument("--received-by", metavar="HOST", help="your mail server: its Received field dates each mail")
+    command.add_argument("--domain", type=domain_name, metavar="DOMAIN", help="address each answer to LOGIN@DOMAIN")
     command.add_argument("--outbox", metavar="OUTBOX", help="where the answers go (default: FOLDER.outbox)")
-    command.add_argument("--journal", metavar="FILE", help="keep each vote in FILE (default: that of GR_DESK_JOURNAL)")
+    command.add_argument("--journal", metavar="FILE", help="keep each vote in FILE; required, or GR_DESK_JOURNAL")
     return command
 
 

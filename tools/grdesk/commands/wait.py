@@ -23,11 +23,11 @@ def parser():
         __doc__,
         ["[--port P | --socket PATH] [--seconds N]"],
         examples=["gr-desk wait --port 8080 --seconds 10"],
-        statuses=[(0, "it answers"), (2, "wrong words"), (3, "it did not answer in that time")],
+        statuses=[(0, "it answers"), (2, "wrong arguments"), (3, "it did not answer in that time")],
         environment=ADDRESS,
     )
     add_address(command)
-    command.add_argument("--seconds", type=seconds_number, metavar="N", help="wait so long at most (default: 60)")
+    command.add_argument("--seconds", type=seconds_number, metavar="N", help="give up after N seconds (default: 60)")
     return command
 
 

@@ -72,8 +72,8 @@ def socket_name(text):
 
 def add_address(parser):
     """Takes the options that tell where `serve` is reached."""
-    parser.add_argument("--port", type=port_number, metavar="P", help="the desk that `serve` has open on port P")
-    parser.add_argument("--socket", type=socket_name, metavar="PATH", help="the one behind the socket PATH")
+    parser.add_argument("--port", type=port_number, metavar="P", help="the running `serve` on port P")
+    parser.add_argument("--socket", type=socket_name, metavar="PATH", help="the running `serve` behind this socket")
 
 
 def given_address(arguments):

@@ -14,12 +14,12 @@ HEADING = re.compile("[A-Z][A-Z ]*")
 # What the tools read of the environment.
 VARIABLES = {
     "GR_DESK_PORT": "The port of the `serve` that is meant if neither a desk nor --port nor --socket is given.",
-    "GR_DESK_SOCKET": "The same, for the socket of a proxy before it. Only one of the two may be set.",
+    "GR_DESK_SOCKET": "The socket to use instead. Set only one of the two.",
     "GR_DESK_JOURNAL": "The journal that is meant if --journal is not given.",
     "COPY_KEY": "The public key that a copy is encrypted to.",
     "COPY_TO": "The line of the shell that sends it.",
     "XDG_RUNTIME_DIR": "The folder in which a private copy of the desk is made while the tool runs, if it has room.",
-    "TMPDIR": "Otherwise the copy is made in its folder gr-desk-UID, or that of /tmp, which only its owner may enter.",
+    "TMPDIR": "Otherwise the copy goes to gr-desk-UID in TMPDIR or /tmp, which only its owner can enter.",
 }
 
 
