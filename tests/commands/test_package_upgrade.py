@@ -3,6 +3,7 @@ in for those of systemd and keep what they were asked for. The socket of a desk 
 Where the machine has dpkg, and this is root's account, the package goes through all of that in a folder, with the
 account and the folder of a desk."""
 import os
+import re
 import shutil
 import socket
 import stat
@@ -11,11 +12,11 @@ import time
 import unittest
 from contextlib import contextmanager
 
+from tests.commands.packed import DEBIAN, requires_debhelper
 from tests.support import version_1
 from tests.support.case import Case
 from tests.support.program import PATIENCE, TOP, compile_tools, expect, fail, make_desk, runs, tool
 
-SCRIPTS = TOP / "tools" / "debian"
 # All but the template, which runs under no name of its own.
 UNITS = sorted(path.name for path in (TOP / "tools" / "units").iterdir() if "@." not in path.name)
 BY_SOCKET = ["gr_desk.socket", "gr_desk-proxy.service", "gr_desk-private.service", "gr_desk-backup.timer"]
@@ -62,7 +63,6 @@ SLEEP = f"""#!/bin/sh
 echo "sleep" >>"$CALLS"
 exec {shutil.which("sleep")} "$@"
 """
-ACCOUNT = ["systemd-sysusers gr-desk.conf", "systemd-tmpfiles --create gr-desk.conf"]
 RELOAD = "systemctl --system daemon-reload"
 CLOSE = "systemctl --job-mode=ignore-dependencies stop gr_desk.socket"
 STOP_WAY = "systemctl stop gr_desk-proxy.service"
@@ -93,7 +93,7 @@ class Machine:
 
     def script(self, name):
         """A script of the package, for this machine."""
-        text = (SCRIPTS / name).read_text().replace("@UNITS@", " ".join(UNITS))
+        text = (DEBIAN / f"gr-desk.{name}").read_text()
         for path, ours in (
             ("/run/systemd/system", self.booted),
             ("/var/lib/gr_desk/desk.db", self.desk),
@@ -148,13 +148,19 @@ class Scripts(Case):
         self.machine = Machine(self.folder())
 
     def test_an_install_starts_nothing(self):
-        self.assertEqual(self.machine.run("postinst", "configure"), (0, "", [*ACCOUNT, RELOAD]))
+        self.assertEqual(self.machine.run("postinst", "configure"), (0, "", [RELOAD]))
         self.assertEqual(self.machine.are_active(), [])
 
-    def test_an_install_without_systemd_makes_the_account_and_its_folder(self):
+    def test_an_install_without_systemd_asks_for_nothing(self):
         self.machine.booted.rmdir()
-        self.assertEqual(self.machine.run("postinst", "configure"), (0, "", ACCOUNT))
+        self.assertEqual(self.machine.run("postinst", "configure"), (0, "", []))
         self.assertEqual(self.machine.are_active(), [])
+
+    def test_each_script_names_each_unit_of_the_package(self):
+        for name in "postinst", "prerm":
+            with self.subTest(name=name):
+                named = set(re.findall(r"gr_desk[\w-]*\.(?:service|socket|timer)", self.machine.script(name)))
+                self.assertEqual(sorted(named), UNITS)
 
     def test_other_words_of_dpkg_to_an_install_change_nothing(self):
         for words in ["abort-upgrade", "1.0.0"], ["triggered", "x"]:
@@ -163,12 +169,12 @@ class Scripts(Case):
 
     def test_an_upgrade_restarts_the_port(self):
         self.machine.has_active("gr_desk.service")
-        calls = [*ACCOUNT, RELOAD, "restart gr_desk.service"]
+        calls = [RELOAD, "restart gr_desk.service"]
         self.assertEqual(self.machine.upgrade(), (0, "", calls))
 
     def test_an_upgrade_closes_the_socket_and_starts_again_what_ran_and_nothing_else(self):
         self.machine.has_active(*BY_SOCKET)
-        self.assertEqual(self.machine.upgrade(), (0, "", [*ACCOUNT, RELOAD, *BY_SOCKET_AGAIN]))
+        self.assertEqual(self.machine.upgrade(), (0, "", [RELOAD, *BY_SOCKET_AGAIN]))
         self.assertEqual(self.machine.are_active(), sorted(BY_SOCKET))
 
     def test_a_unit_that_cannot_start_after_an_upgrade_is_reported(self):
@@ -184,12 +190,17 @@ class Scripts(Case):
             with self.subTest(words=words):
                 self.assertEqual(self.machine.run("prerm", *words), (0, "", []))
 
-    def test_a_removal_ends_and_disables_each_unit_the_sockets_first(self):
+    def test_a_removal_stops_each_unit_the_sockets_first(self):
         self.machine.has_active(*BY_SOCKET)
-        order = [unit for end in (".socket", ".timer", ".service") for unit in UNITS if unit.endswith(end)]
-        calls = [f"{what} {unit}" for unit in order for what in ("stop", "systemctl --quiet --no-reload disable")]
-        self.assertEqual(self.machine.run("prerm", "remove"), (0, "", calls))
+        status, said, calls = self.machine.run("prerm", "remove")
+        self.assertEqual((status, said, len(calls)), (0, "", 1))
+        what, first, *others = calls[0].split()
+        self.assertEqual((what, first, sorted([first, *others])), ("stop", "gr_desk.socket", UNITS))
         self.assertEqual(self.machine.are_active(), [])
+
+    def test_a_removal_without_systemd_asks_for_nothing(self):
+        self.machine.booted.rmdir()
+        self.assertEqual(self.machine.run("prerm", "remove"), (0, "", []))
 
 
 class Connections(Case):
@@ -215,13 +226,13 @@ class Connections(Case):
         end = time.monotonic() + PATIENCE
         while self.machine.asked().count("sleep") < 2 and process.poll() is None and time.monotonic() < end:
             time.sleep(0.01)
-        self.assertEqual([*dict.fromkeys(self.machine.asked())], [*ACCOUNT, RELOAD, CLOSE, "sleep"])
+        self.assertEqual([*dict.fromkeys(self.machine.asked())], [RELOAD, CLOSE, "sleep"])
         yield process
 
     def goes_on(self, process):
         status, said, calls = self.machine.ended(process, "postinst")
         calls = [each for each in calls if each != "sleep"]
-        self.assertEqual((status, said, calls), (0, "", [*ACCOUNT, RELOAD, *BY_SOCKET_AGAIN]))
+        self.assertEqual((status, said, calls), (0, "", [RELOAD, *BY_SOCKET_AGAIN]))
 
     def test_it_waits_for_nobody_if_nobody_is_connected(self):
         self.goes_on(self.machine.started(self.machine.script("postinst"), "postinst", "configure", "0.9.0"))
@@ -274,13 +285,13 @@ class Desks(Case):
     def test_a_desk_of_this_version_runs_again(self):
         make_desk(self.machine.desk)
         self.machine.has_active("gr_desk.service")
-        calls = [*ACCOUNT, RELOAD, "runuser", "restart gr_desk.service"]
+        calls = [RELOAD, "runuser", "restart gr_desk.service"]
         self.assertEqual(self.machine.upgrade(), (0, "", calls))
 
     def test_a_desk_is_looked_at_before_its_socket_is_closed(self):
         make_desk(self.machine.desk)
         self.machine.has_active(*BY_SOCKET)
-        self.assertEqual(self.machine.upgrade(), (0, "", [*ACCOUNT, RELOAD, "runuser", *BY_SOCKET_AGAIN]))
+        self.assertEqual(self.machine.upgrade(), (0, "", [RELOAD, "runuser", *BY_SOCKET_AGAIN]))
 
     def test_a_desk_of_an_earlier_version_is_not_started_again_and_is_left(self):
         version_1.unpack(self.machine.desk)
@@ -290,7 +301,7 @@ class Desks(Case):
         text = f"gr-desk: gr_desk.socket {fault}\ngr-desk: gr_desk-private.service {fault}\n"
         calls = ["runuser", CLOSE, STOP_WAY, "stop gr_desk-private.service", "restart gr_desk-backup.timer"]
         text += self.old.format(self.machine.desk)
-        self.assertEqual(self.machine.upgrade(), (0, text, [*ACCOUNT, RELOAD, *calls]))
+        self.assertEqual(self.machine.upgrade(), (0, text, [RELOAD, *calls]))
         self.is_left(held)
 
     def test_a_desk_of_an_earlier_version_that_nothing_serves_is_reported_and_left(self):
@@ -317,10 +328,8 @@ class InAFolder(Case):
         (of_package / "gr_desk.socket").touch()
         # A link to the unit of the package, as an enabled unit has it, hides nothing.
         (by_hand / "gr_desk.socket").symlink_to(of_package / "gr_desk.socket")
-        calls = [f"systemd-sysusers --root={self.root} gr-desk.conf"]
-        calls.append(f"systemd-tmpfiles --root={self.root} --create gr-desk.conf")
         hidden = "gr-desk: /etc/systemd/system/gr_desk.service hides the unit of the package\n"
-        self.assertEqual(self.run_there("postinst", "configure"), (0, hidden, calls))
+        self.assertEqual(self.run_there("postinst", "configure"), (0, hidden, []))
 
     def test_a_removal_says_nothing_where_no_desk_is(self):
         self.assertEqual(self.run_there("postrm", "remove"), (0, "", []))
@@ -342,6 +351,7 @@ class ByDpkg(Case):
     def setUpClass(cls):
         if not shutil.which("dpkg") or os.geteuid() != 0:
             raise unittest.SkipTest("dpkg is not there, or this is not root's account")
+        requires_debhelper()
         made = cls.shared_folder() / "made"
         expect("package", tool("package", made)[:2], (0, b"ok\n"))
         [cls.deb] = made.glob("*.deb")
