@@ -26,7 +26,9 @@ MOMENT = parsedate_to_datetime(re.search(r"^ -- .*>  (.*)$", (DEBIAN / "changelo
 
 # What is there whatever tools and units there are: the mode, the path, and of a link where it leads.
 FIXED = """\
+-rw-r--r-- etc/default/gr-desk
 -rwxr-xr-x usr/lib/gr-desk/gr_desk
+-rw-r--r-- usr/lib/systemd/system-preset/50-gr-desk.preset
 lrwxrwxrwx usr/bin/gr-desk ../lib/gr-desk/tools/gr-desk
 -rw-r--r-- usr/lib/sysusers.d/gr-desk.conf
 -rw-r--r-- usr/lib/tmpfiles.d/gr-desk.conf
@@ -42,10 +44,12 @@ lrwxrwxrwx usr/share/doc/gr-desk/examples/recount ../../../../lib/gr-desk/exampl
 -rwxr-xr-x usr/share/python3/runtime.d/gr-desk.rtupdate
 """
 CONTROL = """\
+-rw-r--r-- conffiles
 -rw-r--r-- control
 -rw-r--r-- md5sums
 -rwxr-xr-x postinst
 -rwxr-xr-x postrm
+-rwxr-xr-x preinst
 -rwxr-xr-x prerm
 """
 

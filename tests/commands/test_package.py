@@ -1,8 +1,9 @@
 """The package that dpkg-buildpackage builds. It is built twice, here and from a copy of the sources, in another folder,
 by another account if that is possible, in another language and zone, under another umask, and of files with other
-times: the bytes are the same. Each path is compared with a list, with its mode, its owner and its time, and each file with the
-sources. Then it is unpacked, and the vote of README.md is run by what lies there. If the machine has them, `man` shows
-the pages, bash completes by the script, systemd-analyze verifies the units, and lintian finds nothing."""
+times: the bytes are the same. Each path is compared with a list, with its mode, its owner and its time, and each
+file with the sources. Then it is unpacked, and the vote of README.md is run by what lies there. If the machine has
+them, `man` shows the pages, bash completes by the script, systemd-analyze verifies the units, and lintian finds
+nothing."""
 import gzip
 import hashlib
 import os
@@ -110,7 +111,7 @@ class Package(Case):
         return sorted(name for name in self.files if "/man1/" in name)
 
     def units(self):
-        return sorted(name for name in self.files if name.startswith(UNITS))
+        return sorted(name for name in self.files if name.startswith(f"{UNITS}/"))
 
     def test_the_package_is_made_with_a_file_beside_it(self):
         self.assertEqual(self.ran_here[:2], (0, b"ok\n"))
@@ -256,8 +257,9 @@ class Package(Case):
         accounts = "systemd | systemd-standalone-sysusers | systemd-sysusers"
         self.assertEqual(sorted(depends), sorted([accounts, "libc6", "python3:any (>= 3.9~)"]))
 
-    def test_md5sums_has_each_file(self):
-        sums = sorted(f"{hashlib.md5(data).hexdigest()}  {path}" for path, data in self.files.items())
+    def test_md5sums_has_each_file_but_for_settings(self):
+        files = {path: data for path, data in self.files.items() if not path.startswith("etc/")}
+        sums = sorted(f"{hashlib.md5(data).hexdigest()}  {path}" for path, data in files.items())
         self.assertEqual(sorted(self.packed.control.by_path["md5sums"].decode().splitlines()), sums)
 
     def changelog(self):
@@ -289,6 +291,17 @@ class Package(Case):
         control, rights = self.packed.control.by_path["control"], self.files[f"{DOCS}/copyright"]
         people = set(re.findall(r"[\w.+-]+@[\w.-]+\w", control.decode() + self.changelog() + rights.decode()))
         self.assertEqual(people, set(re.findall(r"<(.*)>", MAINTAINER)))
+
+    def test_the_settings_of_the_desk_are_a_file_that_an_upgrade_leaves_and_has_comments_alone(self):
+        self.assertEqual(self.packed.control.by_path["conffiles"], b"/etc/default/gr-desk\n")
+        lines = self.files["etc/default/gr-desk"].decode().splitlines()
+        self.assertEqual([line for line in lines if line and not line.startswith("#")], [])
+        self.assertTrue({"COPY_KEY", "COPY_TO"} <= {line[1:].split("=")[0] for line in lines})
+
+    def test_no_unit_of_the_desk_is_enabled_by_a_preset(self):
+        text = self.files["usr/lib/systemd/system-preset/50-gr-desk.preset"].decode()
+        rules = [line.split() for line in text.splitlines() if not line.startswith("#")]
+        self.assertEqual(rules, [["disable", "gr_desk*"]])
 
     def test_lintian_finds_no_error_and_no_warning(self):
         if not shutil.which("lintian"):

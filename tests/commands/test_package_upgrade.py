@@ -20,7 +20,10 @@ from tests.support.program import PATIENCE, TOP, compile_tools, expect, fail, ma
 # All but the template, which runs under no name of its own.
 UNITS = sorted(path.name for path in (TOP / "tools" / "units").iterdir() if "@." not in path.name)
 BY_SOCKET = ["gr_desk.socket", "gr_desk-proxy.service", "gr_desk-private.service", "gr_desk-backup.timer"]
-LEFT = "gr-desk: /var/lib/gr_desk is left, with each desk and each copy in it, and so is the account gr_desk\n"
+LEFT = """\
+gr-desk: kept /var/lib/gr_desk (all desks and copies) and the account _gr_desk; delete them yourself if you no longer \
+need them
+"""
 
 # A unit is active where it has a file. As systemd does, this refuses to open a socket while its proxy runs, and starts
 # the proxy with the socket.
@@ -78,6 +81,7 @@ class Machine:
     def __init__(self, work):
         self.active, self.calls, self.bin = work / "active", work / "calls", work / "bin"
         self.booted, self.desk, self.socket = work / "booted", work / "desk.db", work / "desk.sock"
+        self.policy, self.home = work / "policy-rc.d", work / "home"
         for path in self.active, self.bin, self.booted:
             path.mkdir()
         for name, text in [
@@ -98,6 +102,8 @@ class Machine:
             ("/run/systemd/system", self.booted),
             ("/var/lib/gr_desk/desk.db", self.desk),
             ("/run/gr_desk/desk.sock", self.socket),
+            ("/usr/sbin/policy-rc.d", self.policy),
+            ("home=/var/lib/gr_desk\n", f"home={self.home}\n"),
         ):
             text = text.replace(path, str(ours))
         return text
@@ -182,8 +188,38 @@ class Scripts(Case):
             with self.subTest(unit=unit):
                 machine = Machine(self.folder())
                 machine.has_active(unit, "fails")
-                why = f"gr-desk: it failed to {failed} {unit}: journalctl -u tells why\n"
+                why = f"gr-desk: could not {failed} {unit}; journalctl -u says why\n"
                 self.assertEqual(machine.upgrade()[:2], (0, why))
+
+    def has_policy(self, status):
+        """This machine has a policy that answers each question by this status."""
+        self.machine.policy.write_text(f'#!/bin/sh\necho "policy $*" >>"$CALLS"\nexit {status}\n')
+        self.machine.policy.chmod(0o755)
+
+    def test_an_upgrade_that_the_policy_of_the_machine_forbids_stops_nothing_and_says_what_runs_on(self):
+        self.has_policy(101)
+        self.machine.has_active(*BY_SOCKET)
+        status, told, calls = self.machine.upgrade()
+        kept = ["gr_desk.socket", "gr_desk-backup.timer", "gr_desk-private.service"]
+        why = f"was not restarted, since {self.machine.policy} forbids it, and still runs the earlier version"
+        lines = [f"gr-desk: {unit} {why}" for unit in kept]
+        lines.append(f"gr-desk: when nobody votes, run: systemctl restart {' '.join(kept)}")
+        self.assertEqual((status, told.splitlines()), (0, lines))
+        self.assertEqual(calls, [RELOAD, "policy gr_desk.socket restart"])
+        self.assertEqual(self.machine.are_active(), sorted(BY_SOCKET))
+
+    def test_an_upgrade_that_the_policy_of_the_machine_allows_asks_it_before_anything_is_stopped(self):
+        for status in 0, 104:
+            with self.subTest(status=status):
+                self.has_policy(status)
+                self.machine.has_active(*BY_SOCKET)
+                asked = [f"policy {unit} restart" for unit in
+                         ("gr_desk.socket", "gr_desk-backup.timer", "gr_desk-private.service")]
+                self.assertEqual(self.machine.upgrade(), (0, "", [RELOAD, *asked, *BY_SOCKET_AGAIN]))
+
+    def test_a_machine_on_which_nothing_runs_is_asked_nothing(self):
+        self.has_policy(101)
+        self.assertEqual(self.machine.upgrade(), (0, "", [RELOAD]))
 
     def test_words_of_dpkg_before_an_upgrade_change_nothing(self):
         for words in ["upgrade", "2.0.0"], ["failed-upgrade", "0.9.0"]:
@@ -273,7 +309,7 @@ class Connections(Case):
 class Desks(Case):
     """An upgrade where there is a desk, which is looked at in a copy."""
 
-    old = "gr-desk: an earlier program made {}: copy it by gr-desk backup, and say gr-desk migrate, by its account\n"
+    old = "gr-desk: {} is in an older format: as _gr_desk, run gr-desk backup and then gr-desk migrate\n"
 
     def setUp(self):
         compile_tools()
@@ -297,7 +333,7 @@ class Desks(Case):
         version_1.unpack(self.machine.desk)
         held = self.machine.desk.read_bytes()
         self.machine.has_active(*BY_SOCKET)
-        fault = "is not started again, since the desk has fault F7 TooOld"
+        fault = "was not restarted: the desk reports fault F7 TooOld"
         text = f"gr-desk: gr_desk.socket {fault}\ngr-desk: gr_desk-private.service {fault}\n"
         calls = ["runuser", CLOSE, STOP_WAY, "stop gr_desk-private.service", "restart gr_desk-backup.timer"]
         text += self.old.format(self.machine.desk)
@@ -309,6 +345,35 @@ class Desks(Case):
         held = self.machine.desk.read_bytes()
         self.assertEqual(self.machine.upgrade()[:2], (0, self.old.format(self.machine.desk)))
         self.is_left(held)
+
+
+class EarlierAccount(Case):
+    """An install where the folder of the desk belongs to the account of an earlier version, or to another one."""
+
+    def install(self, *words, owner="gr_desk", files=("desk.db",), **more):
+        machine = Machine(self.folder())
+        (machine.bin / "stat").write_text(f"#!/bin/sh\necho {owner}\n")
+        (machine.bin / "stat").chmod(0o755)
+        machine.home.mkdir()
+        for name in files:
+            (machine.home / name).touch()
+        return machine.run("preinst", *words, **more)
+
+    def test_it_stops_if_that_account_has_a_desk_and_says_how_to_rename_it(self):
+        for words in ["install"], ["install", "0.9.0"], ["upgrade", "0.9.0"]:
+            with self.subTest(words=words):
+                status, told, calls = self.install(*words)
+                self.assertEqual((status, calls), (1, []))
+                for line in "usermod --login _gr_desk gr_desk", "groupmod --new-name _gr_desk gr_desk":
+                    self.assertIn(f"\n    {line}\n", told)
+
+    def test_it_goes_on_if_the_folder_is_empty_or_of_another_account_or_in_an_image(self):
+        for options in {"files": ()}, {"owner": "_gr_desk"}, {"owner": "root"}, {"DPKG_ROOT": "/image"}:
+            with self.subTest(options=options):
+                self.assertEqual(self.install("install", **options), (0, "", []))
+
+    def test_an_upgrade_that_is_taken_back_goes_on(self):
+        self.assertEqual(self.install("abort-upgrade", "2.0.0"), (0, "", []))
 
 
 class InAFolder(Case):
@@ -328,7 +393,8 @@ class InAFolder(Case):
         (of_package / "gr_desk.socket").touch()
         # A link to the unit of the package, as an enabled unit has it, hides nothing.
         (by_hand / "gr_desk.socket").symlink_to(of_package / "gr_desk.socket")
-        hidden = "gr-desk: /etc/systemd/system/gr_desk.service hides the unit of the package\n"
+        file = "/etc/systemd/system/gr_desk.service"
+        hidden = f"gr-desk: {file} overrides the packaged unit; remove it to use the packaged one\n"
         self.assertEqual(self.run_there("postinst", "configure"), (0, hidden, []))
 
     def test_a_removal_says_nothing_where_no_desk_is(self):
@@ -381,7 +447,7 @@ class ByDpkg(Case):
         account = (self.root / "etc/passwd").read_text().split(":")
         about = self.home.stat()
         self.assertEqual((stat.filemode(about.st_mode), about.st_uid), ("drwx------", int(account[2])))
-        self.assertEqual((account[0], account[6].strip()), ("gr_desk", "/usr/sbin/nologin"))
+        self.assertEqual((account[0], account[6].strip()), ("_gr_desk", "/usr/sbin/nologin"))
         self.assertEqual([*self.home.iterdir()], [])
 
     def test_dpkg_finds_each_file_of_the_package_as_it_must_be(self):
@@ -394,7 +460,7 @@ class ByDpkg(Case):
         for word in "--remove", "--purge":
             with self.subTest(word=word):
                 said = self.dpkg(word, "gr-desk").err.decode()
-                self.assertTrue(said.endswith(LEFT) or not self.home.exists(), said)
+                self.assertTrue(LEFT in said or not self.home.exists(), said)
         names = (str(path.relative_to(self.root)) for path in self.root.rglob("*"))
         left = sorted(name for name in names if "gr-desk" in name or "gr_desk" in name)
         kept = ["var/lib/gr_desk", "var/lib/gr_desk/desk.db"] if self.has_account() else []
