@@ -34,11 +34,9 @@ from tests.support.program import TOP, Ran, runs, tool
 NOBODY = 65534
 NAME = f"gr-desk_{VERSION}_amd64.deb"
 NAMES = [NAME, f"{NAME}.sha256"]
-# The first lines of scripts in the sources, and in the package.
-PYTHONS = {
-    b"#!/usr/bin/env -S python3 -B\n": b"#! /usr/bin/python3 -B\n",
-    b"#!/usr/bin/env python3\n": b"#! /usr/bin/python3\n",
-}
+# The first line of a script in the sources, and in the package. dh_python3 of Debian 13 leaves the option out.
+OF_SOURCES = re.compile(rb"\A#!/usr/bin/env (-S )?python3( -B)?\n")
+OF_DEBIAN = re.compile(rb"\A#! /usr/bin/python3( -B)?\n")
 
 
 def copied_tree(work):
@@ -69,12 +67,11 @@ def another_account(work, top):
     return account
 
 
-def as_packed(source):
-    """A file of the sources as the package has it, where a script names another Python."""
-    for first, packed in PYTHONS.items():
-        if source.startswith(first):
-            return packed + source[len(first) :]
-    return source
+def is_packed(source, packed):
+    """Whether a file of the package is the one of the sources, but for the Python that a script names."""
+    if OF_SOURCES.match(source):
+        return bool(OF_DEBIAN.match(packed)) and packed.partition(b"\n")[2] == source.partition(b"\n")[2]
+    return packed == source
 
 
 def first_in_sources(path):
@@ -219,7 +216,7 @@ class Package(Case):
         self.assertTrue(made_from)
         for path, source in made_from.items():
             with self.subTest(path=path):
-                self.assertTrue(self.files[path] == as_packed(source.read_bytes()))
+                self.assertTrue(is_packed(source.read_bytes(), self.files[path]))
 
     def test_the_program_is_as_it_was_built(self):
         self.assertTrue(self.files[f"{HOME}/gr_desk"] == PROGRAM.read_bytes())

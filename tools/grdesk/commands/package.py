@@ -43,7 +43,7 @@ def built(top):
     try:
         ran = subprocess.run(["dpkg-buildpackage", "-us", "-uc", "-b"], cwd=top, stdout=sys.stderr, check=False)
     except FileNotFoundError:
-        raise Failed("dpkg-buildpackage is missing; apt install debhelper dh-python") from None
+        raise Failed("dpkg-buildpackage is missing; apt install build-essential debhelper dh-python") from None
     if ran.returncode != 0:
         raise Failed(f"dpkg-buildpackage ended with status {ran.returncode}; the lines above say why")
     [deb] = top.parent.glob("*.deb")
