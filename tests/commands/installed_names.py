@@ -42,18 +42,18 @@ RUNS = {
     "gr_desk-private.service": SERVES,
     "gr_desk-proxy.service": ['"@/tools/gr-desk" wait --port 8123', PROXY],
     # The times of the socket are nobody's but those who may connect.
-    "gr_desk.socket": ["/usr/bin/install -d -o root -g gr_desk -m 0750 /run/gr_desk"],
+    "gr_desk.socket": ["/usr/bin/install -d -o root -g _gr_desk -m 0750 /run/gr_desk"],
     "gr_desk-backup.service": ['"@/tools/gr-desk" backup --thin desk.db backups'],
     "gr_desk-copy-out.service": ['"@/tools/gr-desk" copy_out desk.db backups'],
     "gr_desk-alarm@.service": ['"@/tools/gr-desk" alarm %i'],
 }
 # What each has to say besides, and what a unit may not say.
 REQUIRES_A_DESK = "ConditionPathExists=%S/gr_desk/desk.db"
-OF_A_DESK = f"""{REQUIRES_A_DESK} User=gr_desk UMask=0077 StateDirectory=gr_desk StateDirectoryMode=0700
+OF_A_DESK = f"""{REQUIRES_A_DESK} User=_gr_desk UMask=0077 StateDirectory=gr_desk StateDirectoryMode=0700
 IPAddressDeny=any IPAddressAllow=localhost Restart=always RestartSec=2 StartLimitBurst=5 StartLimitIntervalSec=60
 ProtectHome=yes NoNewPrivileges=yes ProtectSystem=strict PrivateUsers=yes ProtectProc=invisible
 OnFailure=gr_desk-alarm@%n.service"""
-OF_COPIES = f"""{REQUIRES_A_DESK} User=gr_desk UMask=0077 StateDirectoryMode=0700 Type=oneshot ProtectHome=yes
+OF_COPIES = f"""{REQUIRES_A_DESK} User=_gr_desk UMask=0077 StateDirectoryMode=0700 Type=oneshot ProtectHome=yes
 NoNewPrivileges=yes OnFailure=gr_desk-alarm@%n.service"""
 # The proxy starts after the desk and the socket, and stops with either, with the desk also after a fault. So
 # acts wait at the socket. Either starts it, and no act does.
@@ -67,18 +67,22 @@ STARTS_THE_PROXY = {
     "gr_desk-private.service": "Wants=gr_desk-proxy.service",
 }
 SAYS = {
-    "gr_desk.service": OF_A_DESK,
-    "gr_desk-private.service": f"{OF_A_DESK} PrivateNetwork=yes Conflicts=gr_desk.service PartOf=gr_desk.socket",
-    "gr_desk.socket": f"""{REQUIRES_A_DESK} ListenStream=/run/gr_desk/desk.sock SocketMode=0660 SocketGroup=gr_desk
-    Service=gr_desk-proxy.service Conflicts=gr_desk.service
+    "gr_desk.service": f"{OF_A_DESK} SyslogIdentifier=gr_desk",
+    "gr_desk-private.service": f"""{OF_A_DESK} SyslogIdentifier=gr_desk PrivateNetwork=yes Conflicts=gr_desk.service
+    PartOf=gr_desk.socket""",
+    "gr_desk.socket": f"""{REQUIRES_A_DESK} ListenStream=/run/gr_desk/desk.sock SocketMode=0660 SocketGroup=_gr_desk
+    TriggerLimitIntervalSec=60 TriggerLimitBurst=6 Service=gr_desk-proxy.service Conflicts=gr_desk.service
     OnFailure=gr_desk-alarm@%n.service""",
     "gr_desk-proxy.service": f"""{REQUIRES_A_DESK} PrivateNetwork=yes JoinsNamespaceOf=gr_desk-private.service
     Restart=on-abnormal StartLimitBurst=20 StartLimitIntervalSec=60
-    DynamicUser=yes LogLevelMax=notice ProtectHome=yes NoNewPrivileges=yes OnFailure=gr_desk-alarm@%n.service""",
-    "gr_desk-backup.service": f"{OF_COPIES} PrivateNetwork=yes SyslogLevel=notice LogLevelMax=notice",
+    SyslogIdentifier=gr_desk-proxy DynamicUser=yes LogLevelMax=notice ProtectHome=yes NoNewPrivileges=yes
+    OnFailure=gr_desk-alarm@%n.service""",
+    "gr_desk-backup.service": f"""{OF_COPIES} PrivateNetwork=yes SyslogLevel=notice LogLevelMax=notice
+    SyslogIdentifier=gr_desk-backup""",
     "gr_desk-backup.timer": "OnCalendar=*:0/15 Persistent=true WantedBy=timers.target",
-    "gr_desk-copy-out.service": f"{OF_COPIES} EnvironmentFile=-/etc/default/gr-desk",
+    "gr_desk-copy-out.service": f"""{OF_COPIES} EnvironmentFile=-/etc/default/gr-desk
+    SyslogIdentifier=gr_desk-copy-out""",
     "gr_desk-copy-out.timer": "OnCalendar=*:05 WantedBy=timers.target",
-    "gr_desk-alarm@.service": "Type=oneshot SyslogLevel=err",
+    "gr_desk-alarm@.service": "Type=oneshot SyslogLevel=err SyslogIdentifier=gr_desk-alarm",
 }
 NEVER = {"gr_desk.service": "PrivateNetwork=yes", "gr_desk-copy-out.service": "PrivateNetwork=yes"}

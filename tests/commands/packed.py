@@ -1,14 +1,17 @@
-"""A package as it is read back, by nothing of its maker's, and what must be in it."""
+"""A package as it is read back, and what must be in it."""
 import hashlib
 import io
+import re
+import shutil
 import stat
 import subprocess
 import tarfile
-from functools import cache
+import unittest
+from email.utils import parsedate_to_datetime
 from pathlib import Path
 from typing import NamedTuple
 
-from tests.commands.installed_names import COMMAND_NAMES, MODULES, RUN
+from tests.commands.installed_names import COMMAND_NAMES, MODULES, READ, RUN
 from tests.support.program import TOP
 
 VERSION = (TOP / "VERSION").read_text().strip()
@@ -16,16 +19,20 @@ HOME = "usr/lib/gr-desk"
 DOCS = "usr/share/doc/gr-desk"
 UNITS = "usr/lib/systemd/system"
 PROGRAM = TOP / "crates" / "gr_main" / "out" / "gr_main"
+DEBIAN = TOP / "debian"
+MAINTAINER = "Zephyrplum maintainers <maintainers@users.noreply.zephyrplum.example>"
+# The time of the version, which all that is packed has.
+MOMENT = parsedate_to_datetime(re.search(r"^ -- .*>  (.*)$", (DEBIAN / "changelog").read_text(), re.M)[1])
 
 # What is there whatever tools and units there are: the mode, the path, and of a link where it leads.
 FIXED = """\
+-rw-r--r-- etc/default/gr-desk
 -rwxr-xr-x usr/lib/gr-desk/gr_desk
+-rw-r--r-- usr/lib/systemd/system-preset/50-gr-desk.preset
 lrwxrwxrwx usr/bin/gr-desk ../lib/gr-desk/tools/gr-desk
 -rw-r--r-- usr/lib/sysusers.d/gr-desk.conf
 -rw-r--r-- usr/lib/tmpfiles.d/gr-desk.conf
 -rw-r--r-- usr/share/bash-completion/completions/gr-desk
--rw-r--r-- usr/share/doc/gr-desk/CHANGELOG.md
--rw-r--r-- usr/share/doc/gr-desk/README.md
 -rw-r--r-- usr/share/doc/gr-desk/changelog.gz
 -rw-r--r-- usr/share/doc/gr-desk/copyright
 lrwxrwxrwx usr/share/doc/gr-desk/examples/check_receipt ../../../../lib/gr-desk/examples/check_receipt
@@ -34,12 +41,15 @@ lrwxrwxrwx usr/share/doc/gr-desk/examples/recount ../../../../lib/gr-desk/exampl
 -rw-r--r-- usr/share/lintian/overrides/gr-desk
 -rw-r--r-- usr/share/man/man1/gr-desk.1.gz
 -rw-r--r-- usr/share/man/man1/gr_desk.1.gz
+-rwxr-xr-x usr/share/python3/runtime.d/gr-desk.rtupdate
 """
 CONTROL = """\
+-rw-r--r-- conffiles
 -rw-r--r-- control
 -rw-r--r-- md5sums
 -rwxr-xr-x postinst
 -rwxr-xr-x postrm
+-rwxr-xr-x preinst
 -rwxr-xr-x prerm
 """
 
@@ -48,23 +58,20 @@ def git(*words, top=TOP):
     return subprocess.run(["git", "-C", top, *words], check=True, capture_output=True, text=True).stdout
 
 
-class Commit(NamedTuple):
-    digits: str
-    moment: int
-    author: str
-
-
-@cache
-def last_commit():
-    digits, moment, author = git("log", "-1", "--format=%H%n%ct%n%an <%ae>").split("\n")[:3]
-    return Commit(digits, int(moment), author)
+def requires_debhelper():
+    """Skips tests that build the package if the machine cannot."""
+    if not shutil.which("dpkg-checkbuilddeps"):
+        raise unittest.SkipTest("dpkg-dev is not there to build the package")
+    ran = subprocess.run(["dpkg-checkbuilddeps"], cwd=TOP, capture_output=True, text=True, check=False)
+    if ran.returncode != 0:
+        raise unittest.SkipTest(f"the package cannot be built here: {ran.stderr.strip()}")
 
 
 def paths_of_data():
     """A line for each path that the package is to install."""
     lines = [f"-rw-r--r-- {HOME}/{name}" for name in MODULES] + [f"-rwxr-xr-x {HOME}/{name}" for name in RUN]
     lines += [f"-rw-r--r-- usr/share/man/man1/gr-desk-{name}.1.gz" for name in COMMAND_NAMES]
-    plain = git("ls-files", "docs", "examples/votes").splitlines()
+    plain = [*READ, *git("ls-files", "examples/votes").splitlines()]
     units = [Path(name).name for name in git("ls-files", "tools/units").splitlines()]
     lines += [f"-rw-r--r-- {DOCS}/{name}" for name in plain] + [f"-rw-r--r-- {UNITS}/{name}" for name in units]
     return sorted(lines + FIXED.splitlines())
@@ -87,7 +94,7 @@ class Packed:
         self.parts = list(self.parts_in())
         by_name = {part.name: part.data for part in self.parts}
         self.form = by_name["debian-binary"]
-        self.control, self.files = (Archive(by_name[name]) for name in ("control.tar.gz", "data.tar.gz"))
+        self.control, self.files = (Archive(by_name[name]) for name in ("control.tar.xz", "data.tar.xz"))
 
     def parts_in(self):
         place = 8
@@ -116,7 +123,7 @@ class Archive:
             }
 
     def opened(self):
-        return tarfile.open(fileobj=io.BytesIO(self.data), mode="r:gz")
+        return tarfile.open(fileobj=io.BytesIO(self.data), mode="r:xz")
 
     def unpacked(self, root):
         root.mkdir()

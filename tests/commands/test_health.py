@@ -155,7 +155,7 @@ class Health(Case):
         for path in self.timed.copies.iterdir():
             path.unlink()
         port = free_port()
-        silent = f"port {port} of {LOCAL} gave no answer to GET /roll within ten seconds: Connection refused"
+        silent = f"port {port} of {LOCAL} gave no answer to GET /roll: Connection refused"
         self.reports(port, AT + HOUR, silent, f"{self.timed.copies} has no copy of the desk")
 
     def test_a_desk_that_failed_is_reported_with_the_status_of_its_response(self):
@@ -169,13 +169,13 @@ class Health(Case):
         for text in ENDLESS:
             with self.subTest(text=text[:90]), answering(text) as port:
                 why = "the answer did not come whole"
-                silent = f"port {port} of {LOCAL} gave no answer to GET /roll within ten seconds: {why}"
+                silent = f"port {port} of {LOCAL} gave no answer to GET /roll: {why}"
                 self.reports(port, AT, silent, f"{self.timed.copies} has no copy of the desk")
 
     def test_a_desk_that_is_silent_or_slow_is_reported_after_ten_seconds(self):
         def is_late(port):
             why = "the answer did not come whole"
-            self.reports(port, AT, f"port {port} of {LOCAL} gave no answer to GET /roll within ten seconds: {why}")
+            self.reports(port, AT, f"port {port} of {LOCAL} gave no answer to GET /roll: {why}")
 
         with answering(None) as silent, answering(WELL, is_slow=True) as slow, ThreadPoolExecutor(2) as pool:
             runs_of_both = {name: pool.submit(is_late, port) for name, port in (("silent", silent), ("slow", slow))}

@@ -308,6 +308,19 @@ class Units(Installed):
                 ours = [line for line in (ran.out + ran.err).split(b"\n") if b"gr_desk" in line]
                 self.assertEqual((ran.status, ours), (0, []))
 
+    def test_each_service_has_an_exposure_below_three_by_systemd_analyze(self):
+        if not shutil.which("systemd-analyze"):
+            self.skipTest("no systemd-analyze is there")
+        place, services = self.places[f"{self.work}/for a vote"], [each for each in UNITS if each.endswith(".service")]
+        self.assertTrue(services)
+        for name in services:
+            with self.subTest(name=name):
+                line = ["systemd-analyze", "--offline=true", "--threshold=29", "--no-pager", "security", place / name]
+                ran = runs(line)
+                if b"unrecognized option" in ran.err:
+                    self.skipTest("this systemd-analyze looks at no unit that is a file")
+                self.assertEqual(ran.status, 0, ran.out.decode().strip().split("\n")[-1])
+
     def test_nothing_is_enabled(self):
         found = [path for path in Path("/etc/systemd/system").rglob("gr_desk*") if path.lstat().st_mtime > BEGAN]
         self.assertEqual(found, [])

@@ -1,9 +1,9 @@
-"""The package that tools/grdesk/commands/package.py makes. It is made twice, here and from a copy of the sources, in
-another folder, by another account where that may be, in another language and zone, and of files with other times: the
-bytes are the same. It is read back by nothing of its maker's. Each path is compared with a list, with its mode, its
-owner and its time, and each file with the sources. What it requires of the C library is what the program names. Then it
-is unpacked, and the vote of README.md is led by what lies there. Where the machine has them, `man` shows the pages,
-bash completes by the script, and systemd-analyze verifies the units."""
+"""The package that dpkg-buildpackage builds. It is built twice, here and from a copy of the sources, in another folder,
+by another account if that is possible, in another language and zone, under another umask, and of files with other
+times: the bytes are the same. Each path is compared with a list, with its mode, its owner and its time, and each
+file with the sources. Then it is unpacked, and the vote of README.md is run by what lies there. If the machine has
+them, `man` shows the pages, bash completes by the script, systemd-analyze verifies the units, and lintian finds
+nothing."""
 import gzip
 import hashlib
 import os
@@ -14,15 +14,18 @@ from pathlib import Path
 
 from tests.commands.packed import (
     CONTROL,
+    DEBIAN,
     DOCS,
     HOME,
+    MAINTAINER,
+    MOMENT,
     PROGRAM,
     UNITS,
     VERSION,
     Packed,
     git,
-    last_commit,
     paths_of_data,
+    requires_debhelper,
 )
 from tests.support.case import Case
 from tests.support.program import TOP, Ran, runs, tool
@@ -31,11 +34,9 @@ from tests.support.program import TOP, Ran, runs, tool
 NOBODY = 65534
 NAME = f"gr-desk_{VERSION}_amd64.deb"
 NAMES = [NAME, f"{NAME}.sha256"]
-# The first lines of scripts in the sources, and in the package.
-PYTHONS = {
-    b"#!/usr/bin/env -S python3 -B\n": b"#!/usr/bin/python3 -B\n",
-    b"#!/usr/bin/env python3\n": b"#!/usr/bin/python3\n",
-}
+# The first line of a script in the sources, and in the package. dh_python3 of Debian 13 leaves the option out.
+OF_SOURCES = re.compile(rb"\A#!/usr/bin/env (-S )?python3( -B)?\n")
+OF_DEBIAN = re.compile(rb"\A#! /usr/bin/python3( -B)?\n")
 
 
 def copied_tree(work):
@@ -66,12 +67,11 @@ def another_account(work, top):
     return account
 
 
-def as_packed(source):
-    """A file of the sources as the package has it, where a script names another Python."""
-    for first, packed in PYTHONS.items():
-        if source.startswith(first):
-            return packed + source[len(first) :]
-    return source
+def is_packed(source, packed):
+    """Whether a file of the package is the one of the sources, but for the Python that a script names."""
+    if OF_SOURCES.match(source):
+        return bool(OF_DEBIAN.match(packed)) and packed.partition(b"\n")[2] == source.partition(b"\n")[2]
+    return packed == source
 
 
 def first_in_sources(path):
@@ -88,6 +88,7 @@ class Package(Case):
 
     @classmethod
     def setUpClass(cls):
+        requires_debhelper()
         cls.work = cls.shared_folder()
         cls.here = cls.work / "here"
         cls.is_changed = bool(git("status", "--porcelain", "--untracked-files=all"))
@@ -107,7 +108,7 @@ class Package(Case):
         return sorted(name for name in self.files if "/man1/" in name)
 
     def units(self):
-        return sorted(name for name in self.files if name.startswith(UNITS))
+        return sorted(name for name in self.files if name.startswith(f"{UNITS}/"))
 
     def test_the_package_is_made_with_a_file_beside_it(self):
         self.assertEqual(self.ran_here[:2], (0, b"ok\n"))
@@ -117,7 +118,7 @@ class Package(Case):
         warning = b"warning: the package has what no commit has"
         self.assertEqual(warning in self.ran_here.err, self.is_changed)
 
-    def test_the_same_bytes_are_made_in_another_folder_language_and_zone_of_files_with_other_times(self):
+    def test_the_same_bytes_are_made_in_another_folder_language_zone_and_umask_of_files_with_other_times(self):
         self.assertEqual(self.ran_there[:2], (0, b"ok\n"))
         self.assertEqual(sorted(path.name for path in self.there.iterdir()), NAMES)
         for name in NAMES:
@@ -161,8 +162,10 @@ class Package(Case):
         changes = ", with changes that no commit has" if self.is_changed else ""
         of_package, of_program = self.packed.sums()
         self.assertEqual((self.here / f"{NAME}.sha256").read_text(), f"""\
+# To sign this file: gpg --armor --detach-sign {NAME}.sha256
+# To check it: gpg --verify {NAME}.sha256.asc {NAME}.sha256 && sha256sum --check {NAME}.sha256
 # The program in this package was proved and built by {toolchain}.
-# The sources are those of the commit {last_commit().digits}{changes}.
+# The sources are those of the commit {git("rev-parse", "HEAD").strip()}{changes}.
 # The program, /usr/lib/gr-desk/gr_desk, has the SHA-256 {of_program}.
 {of_package}  {NAME}
 """)
@@ -177,17 +180,17 @@ class Package(Case):
         self.assertEqual(self.packed.data[:8], b"!<arch>\n")
         self.assertEqual(self.packed.end, len(self.packed.data))
         names = [part.name for part in self.packed.parts]
-        self.assertEqual(names, ["debian-binary", "control.tar.gz", "data.tar.gz"])
+        self.assertEqual(names, ["debian-binary", "control.tar.xz", "data.tar.xz"])
         self.assertEqual(self.packed.form, b"2.0\n")
 
-    def test_the_head_of_each_part_has_the_time_of_the_commit_and_is_of_root(self):
+    def test_the_head_of_each_part_has_the_time_of_the_version_and_is_of_root(self):
         for part in self.packed.parts:
             with self.subTest(part=part.name):
-                moment = str(last_commit().moment).encode()
+                moment = str(int(MOMENT.timestamp())).encode()
                 self.assertEqual(part.head, [moment, b"0", b"0", b"100644", b"`\n"])
 
-    def test_each_member_is_of_root_and_has_the_time_of_the_commit(self):
-        expected = 0, 0, "root", "root", last_commit().moment
+    def test_each_member_is_of_root_and_has_the_time_of_the_version(self):
+        expected = 0, 0, "root", "root", int(MOMENT.timestamp())
         for info in [*self.packed.control.members, *self.packed.files.members]:
             about = info.uid, info.gid, info.uname, info.gname, info.mtime
             if about != expected:
@@ -213,7 +216,7 @@ class Package(Case):
         self.assertTrue(made_from)
         for path, source in made_from.items():
             with self.subTest(path=path):
-                self.assertTrue(self.files[path] == as_packed(source.read_bytes()))
+                self.assertTrue(is_packed(source.read_bytes(), self.files[path]))
 
     def test_the_program_is_as_it_was_built(self):
         self.assertTrue(self.files[f"{HOME}/gr_desk"] == PROGRAM.read_bytes())
@@ -242,49 +245,66 @@ class Package(Case):
     def fields(self):
         return dict(re.findall(r"^([A-Z][\w-]+): (.*)$", self.packed.control.by_path["control"].decode(), re.M))
 
-    def depends(self):
-        """The version of the C library that the package requires."""
-        form = r"libc6 \(>= ([0-9.]+)\)(, libgcc-s1 \(>= [0-9.]+\))?, python3 \(>= 3\.9\)"
-        text = self.fields()["Depends"]
-        self.assertRegex(text, f"^{form}$")
-        return re.fullmatch(form, text)[1]
-
-    def test_its_fields_are_those_of_the_version_and_of_the_author_of_the_commit(self):
-        expected = {"Package": "gr-desk", "Version": VERSION, "Architecture": "amd64"}
-        expected["Maintainer"] = last_commit().author
+    def test_its_fields_are_those_of_the_version_and_its_maintainer_is_always_the_same(self):
+        expected = {"Package": "gr-desk", "Version": VERSION, "Architecture": "amd64", "Maintainer": MAINTAINER}
         self.assertEqual({name: self.fields().get(name) for name in expected}, expected)
 
-    def test_it_depends_on_the_c_library_and_on_python_alone(self):
-        self.depends()
+    def test_it_depends_on_the_c_library_on_python_and_on_what_makes_accounts_alone(self):
+        depends = [re.sub(r"libc6 \(>= [0-9.]+\)", "libc6", each) for each in self.fields()["Depends"].split(", ")]
+        accounts = "systemd | systemd-standalone-sysusers | systemd-sysusers"
+        self.assertEqual(sorted(depends), sorted([accounts, "libc6", "python3:any (>= 3.9~)"]))
 
-    def test_it_requires_the_version_of_the_c_library_that_the_program_names(self):
-        if not shutil.which("readelf"):
-            self.skipTest("readelf is not installed")
-        line = ["readelf", "--version-info", "--wide", PROGRAM]
-        text = runs(line, env=os.environ | {"LC_ALL": "C"}).out.decode()
-        versions = {tuple(map(int, each.split("."))) for each in re.findall(r"Name: GLIBC_([0-9.]+)", text)}
-        self.assertEqual(tuple(map(int, self.depends().split("."))), max(versions))
-
-    def test_md5sums_has_each_file(self):
-        sums = "".join(f"{hashlib.md5(data).hexdigest()}  {path}\n" for path, data in sorted(self.files.items()))
-        self.assertEqual(self.packed.control.by_path["md5sums"].decode(), sums)
+    def test_md5sums_has_each_file_but_for_settings(self):
+        files = {path: data for path, data in self.files.items() if not path.startswith("etc/")}
+        sums = sorted(f"{hashlib.md5(data).hexdigest()}  {path}" for path, data in files.items())
+        self.assertEqual(sorted(self.packed.control.by_path["md5sums"].decode().splitlines()), sums)
 
     def changelog(self):
         return gzip.decompress(self.files[f"{DOCS}/changelog.gz"]).decode()
 
-    def test_the_changelog_begins_with_the_version_and_is_signed_by_the_author_of_the_commit(self):
+    def test_the_changelog_begins_with_the_version_and_is_signed_by_the_maintainer(self):
+        self.assertEqual(self.changelog(), (DEBIAN / "changelog").read_text())
         self.assertEqual(self.changelog().split("\n")[0], f"gr-desk ({VERSION}) unstable; urgency=medium")
-        self.assertIn(f"\n -- {last_commit().author}  ", self.changelog())
+        self.assertIn(f"\n -- {MAINTAINER}  ", self.changelog())
 
-    def test_the_licence_is_in_it(self):
-        licences = [TOP / name for name in ("LICENSE", "LICENCE", "COPYING") if (TOP / name).is_file()]
-        licence = licences[0].read_text() if licences else "give no licence, so none is granted"
-        self.assertIn(licence, self.files[f"{DOCS}/copyright"].decode())
+    def test_a_version_that_differs_from_that_of_the_program_ends_the_build(self):
+        top = self.folder()
+        shutil.copytree(DEBIAN, top / "debian")
+        (top / "gr_desk").touch(0o755)
+        why = "debian/rules: debian/changelog, VERSION and ./gr_desk --version name different versions\n"
+        for program, version, ends in (VERSION, VERSION, False), ("0.9.9", VERSION, True), (VERSION, "0.9.9", True):
+            with self.subTest(program=program, version=version):
+                (top / "gr_desk").write_text(f"#!/bin/sh\necho gr_desk {program}\necho schema 2\n")
+                (top / "VERSION").write_text(f"{version}\n")
+                ran = runs(["make", "-f", "debian/rules", "override_dh_auto_build"], cwd=top)
+                self.assertEqual((ran.status, why in ran.err.decode()), (2, True) if ends else (0, False), ran)
 
-    def test_nobody_is_named_but_the_author_of_the_commits(self):
+    def test_the_file_of_rights_says_once_that_no_licence_is_granted(self):
+        text = self.files[f"{DOCS}/copyright"].decode()
+        self.assertEqual(len(re.findall(r"^ No licence is granted yet\.$", text, re.M)), 1)
+        self.assertIn("\nFiles: *\n", text)
+
+    def test_nobody_is_named_but_the_maintainer(self):
         control, rights = self.packed.control.by_path["control"], self.files[f"{DOCS}/copyright"]
         people = set(re.findall(r"[\w.+-]+@[\w.-]+\w", control.decode() + self.changelog() + rights.decode()))
-        self.assertEqual(people, set(re.findall(r"<(.*)>", last_commit().author)))
+        self.assertEqual(people, set(re.findall(r"<(.*)>", MAINTAINER)))
+
+    def test_the_settings_of_the_desk_are_a_file_that_an_upgrade_leaves_and_has_comments_alone(self):
+        self.assertEqual(self.packed.control.by_path["conffiles"], b"/etc/default/gr-desk\n")
+        lines = self.files["etc/default/gr-desk"].decode().splitlines()
+        self.assertEqual([line for line in lines if line and not line.startswith("#")], [])
+        self.assertTrue({"COPY_KEY", "COPY_TO"} <= {line[1:].split("=")[0] for line in lines})
+
+    def test_no_unit_of_the_desk_is_enabled_by_a_preset(self):
+        text = self.files["usr/lib/systemd/system-preset/50-gr-desk.preset"].decode()
+        rules = [line.split() for line in text.splitlines() if not line.startswith("#")]
+        self.assertEqual(rules, [["disable", "gr_desk*"]])
+
+    def test_lintian_finds_no_error_and_no_warning(self):
+        if not shutil.which("lintian"):
+            self.skipTest("no lintian is there")
+        ran = runs(["lintian", "--allow-root", "--fail-on", "error,warning", self.here / NAME])
+        self.assertEqual(ran[:2], (0, b""), ran)
 
     # Using it.
 
@@ -336,10 +356,3 @@ class Package(Case):
         ran = runs(["systemd-analyze", "--man=no", "verify", *place.iterdir()])
         ours = [line for line in (ran.out + ran.err).decode().split("\n") if "gr_desk" in line]
         self.assertEqual((ran.status, ours), (0, []))
-
-    def test_dpkg_deb_unpacks_the_same(self):
-        if not shutil.which("dpkg-deb"):
-            self.skipTest("dpkg-deb is not installed")
-        place = self.folder() / "by dpkg"
-        self.assertEqual(runs(["dpkg-deb", "-x", self.here / NAME, place]), Ran(0, b"", b""))
-        self.assertEqual(runs(["diff", "--no-dereference", "-r", place, self.root]), Ran(0, b"", b""))

@@ -15,9 +15,7 @@ class Modes(Case):
     def make(self, folder, mask, content=b"whole"):
         """Makes the package in a folder under this umask."""
         stubs = {
-            "built": lambda: b"", "commit": lambda: None, "version": lambda: "1.2.3", "made": lambda *_: content,
-            "Program": lambda _: SimpleNamespace(architecture="amd64"), "beside": lambda *_: content.decode(),
-            "say": lambda _: None,
+            "built": lambda _: (NAMES[0], content), "beside": lambda *_: content.decode(), "say": lambda _: None,
         }
         with mock.patch.multiple(package, **stubs), under_umask(mask), said():
             return package.run(SimpleNamespace(folder=str(folder)))

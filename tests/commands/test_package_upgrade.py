@@ -3,6 +3,7 @@ in for those of systemd and keep what they were asked for. The socket of a desk 
 Where the machine has dpkg, and this is root's account, the package goes through all of that in a folder, with the
 account and the folder of a desk."""
 import os
+import re
 import shutil
 import socket
 import stat
@@ -11,15 +12,18 @@ import time
 import unittest
 from contextlib import contextmanager
 
+from tests.commands.packed import DEBIAN, requires_debhelper
 from tests.support import version_1
 from tests.support.case import Case
 from tests.support.program import PATIENCE, TOP, compile_tools, expect, fail, make_desk, runs, tool
 
-SCRIPTS = TOP / "tools" / "debian"
 # All but the template, which runs under no name of its own.
 UNITS = sorted(path.name for path in (TOP / "tools" / "units").iterdir() if "@." not in path.name)
 BY_SOCKET = ["gr_desk.socket", "gr_desk-proxy.service", "gr_desk-private.service", "gr_desk-backup.timer"]
-LEFT = "gr-desk: /var/lib/gr_desk is left, with each desk and each copy in it, and so is the account gr_desk\n"
+LEFT = """\
+gr-desk: kept /var/lib/gr_desk (all desks and copies) and the account _gr_desk; delete them yourself if you no longer \
+need them
+"""
 
 # A unit is active where it has a file. As systemd does, this refuses to open a socket while its proxy runs, and starts
 # the proxy with the socket.
@@ -62,7 +66,6 @@ SLEEP = f"""#!/bin/sh
 echo "sleep" >>"$CALLS"
 exec {shutil.which("sleep")} "$@"
 """
-ACCOUNT = ["systemd-sysusers gr-desk.conf", "systemd-tmpfiles --create gr-desk.conf"]
 RELOAD = "systemctl --system daemon-reload"
 CLOSE = "systemctl --job-mode=ignore-dependencies stop gr_desk.socket"
 STOP_WAY = "systemctl stop gr_desk-proxy.service"
@@ -78,6 +81,7 @@ class Machine:
     def __init__(self, work):
         self.active, self.calls, self.bin = work / "active", work / "calls", work / "bin"
         self.booted, self.desk, self.socket = work / "booted", work / "desk.db", work / "desk.sock"
+        self.policy, self.home = work / "policy-rc.d", work / "home"
         for path in self.active, self.bin, self.booted:
             path.mkdir()
         for name, text in [
@@ -93,11 +97,13 @@ class Machine:
 
     def script(self, name):
         """A script of the package, for this machine."""
-        text = (SCRIPTS / name).read_text().replace("@UNITS@", " ".join(UNITS))
+        text = (DEBIAN / f"gr-desk.{name}").read_text()
         for path, ours in (
             ("/run/systemd/system", self.booted),
             ("/var/lib/gr_desk/desk.db", self.desk),
             ("/run/gr_desk/desk.sock", self.socket),
+            ("/usr/sbin/policy-rc.d", self.policy),
+            ("home=/var/lib/gr_desk\n", f"home={self.home}\n"),
         ):
             text = text.replace(path, str(ours))
         return text
@@ -148,13 +154,19 @@ class Scripts(Case):
         self.machine = Machine(self.folder())
 
     def test_an_install_starts_nothing(self):
-        self.assertEqual(self.machine.run("postinst", "configure"), (0, "", [*ACCOUNT, RELOAD]))
+        self.assertEqual(self.machine.run("postinst", "configure"), (0, "", [RELOAD]))
         self.assertEqual(self.machine.are_active(), [])
 
-    def test_an_install_without_systemd_makes_the_account_and_its_folder(self):
+    def test_an_install_without_systemd_asks_for_nothing(self):
         self.machine.booted.rmdir()
-        self.assertEqual(self.machine.run("postinst", "configure"), (0, "", ACCOUNT))
+        self.assertEqual(self.machine.run("postinst", "configure"), (0, "", []))
         self.assertEqual(self.machine.are_active(), [])
+
+    def test_each_script_names_each_unit_of_the_package(self):
+        for name in "postinst", "prerm":
+            with self.subTest(name=name):
+                named = set(re.findall(r"gr_desk[\w-]*\.(?:service|socket|timer)", self.machine.script(name)))
+                self.assertEqual(sorted(named), UNITS)
 
     def test_other_words_of_dpkg_to_an_install_change_nothing(self):
         for words in ["abort-upgrade", "1.0.0"], ["triggered", "x"]:
@@ -163,12 +175,12 @@ class Scripts(Case):
 
     def test_an_upgrade_restarts_the_port(self):
         self.machine.has_active("gr_desk.service")
-        calls = [*ACCOUNT, RELOAD, "restart gr_desk.service"]
+        calls = [RELOAD, "restart gr_desk.service"]
         self.assertEqual(self.machine.upgrade(), (0, "", calls))
 
     def test_an_upgrade_closes_the_socket_and_starts_again_what_ran_and_nothing_else(self):
         self.machine.has_active(*BY_SOCKET)
-        self.assertEqual(self.machine.upgrade(), (0, "", [*ACCOUNT, RELOAD, *BY_SOCKET_AGAIN]))
+        self.assertEqual(self.machine.upgrade(), (0, "", [RELOAD, *BY_SOCKET_AGAIN]))
         self.assertEqual(self.machine.are_active(), sorted(BY_SOCKET))
 
     def test_a_unit_that_cannot_start_after_an_upgrade_is_reported(self):
@@ -176,20 +188,55 @@ class Scripts(Case):
             with self.subTest(unit=unit):
                 machine = Machine(self.folder())
                 machine.has_active(unit, "fails")
-                why = f"gr-desk: it failed to {failed} {unit}: journalctl -u tells why\n"
+                why = f"gr-desk: could not {failed} {unit}; journalctl -u says why\n"
                 self.assertEqual(machine.upgrade()[:2], (0, why))
+
+    def has_policy(self, status):
+        """This machine has a policy that answers each question by this status."""
+        self.machine.policy.write_text(f'#!/bin/sh\necho "policy $*" >>"$CALLS"\nexit {status}\n')
+        self.machine.policy.chmod(0o755)
+
+    def test_an_upgrade_that_the_policy_of_the_machine_forbids_stops_nothing_and_says_what_runs_on(self):
+        self.has_policy(101)
+        self.machine.has_active(*BY_SOCKET)
+        status, told, calls = self.machine.upgrade()
+        kept = ["gr_desk.socket", "gr_desk-backup.timer", "gr_desk-private.service"]
+        why = f"was not restarted, since {self.machine.policy} forbids it, and still runs the earlier version"
+        lines = [f"gr-desk: {unit} {why}" for unit in kept]
+        lines.append(f"gr-desk: when nobody votes, run: systemctl restart {' '.join(kept)}")
+        self.assertEqual((status, told.splitlines()), (0, lines))
+        self.assertEqual(calls, [RELOAD, "policy gr_desk.socket restart"])
+        self.assertEqual(self.machine.are_active(), sorted(BY_SOCKET))
+
+    def test_an_upgrade_that_the_policy_of_the_machine_allows_asks_it_before_anything_is_stopped(self):
+        for status in 0, 104:
+            with self.subTest(status=status):
+                self.has_policy(status)
+                self.machine.has_active(*BY_SOCKET)
+                asked = [f"policy {unit} restart" for unit in
+                         ("gr_desk.socket", "gr_desk-backup.timer", "gr_desk-private.service")]
+                self.assertEqual(self.machine.upgrade(), (0, "", [RELOAD, *asked, *BY_SOCKET_AGAIN]))
+
+    def test_a_machine_on_which_nothing_runs_is_asked_nothing(self):
+        self.has_policy(101)
+        self.assertEqual(self.machine.upgrade(), (0, "", [RELOAD]))
 
     def test_words_of_dpkg_before_an_upgrade_change_nothing(self):
         for words in ["upgrade", "2.0.0"], ["failed-upgrade", "0.9.0"]:
             with self.subTest(words=words):
                 self.assertEqual(self.machine.run("prerm", *words), (0, "", []))
 
-    def test_a_removal_ends_and_disables_each_unit_the_sockets_first(self):
+    def test_a_removal_stops_each_unit_the_sockets_first(self):
         self.machine.has_active(*BY_SOCKET)
-        order = [unit for end in (".socket", ".timer", ".service") for unit in UNITS if unit.endswith(end)]
-        calls = [f"{what} {unit}" for unit in order for what in ("stop", "systemctl --quiet --no-reload disable")]
-        self.assertEqual(self.machine.run("prerm", "remove"), (0, "", calls))
+        status, said, calls = self.machine.run("prerm", "remove")
+        self.assertEqual((status, said, len(calls)), (0, "", 1))
+        what, first, *others = calls[0].split()
+        self.assertEqual((what, first, sorted([first, *others])), ("stop", "gr_desk.socket", UNITS))
         self.assertEqual(self.machine.are_active(), [])
+
+    def test_a_removal_without_systemd_asks_for_nothing(self):
+        self.machine.booted.rmdir()
+        self.assertEqual(self.machine.run("prerm", "remove"), (0, "", []))
 
 
 class Connections(Case):
@@ -215,13 +262,13 @@ class Connections(Case):
         end = time.monotonic() + PATIENCE
         while self.machine.asked().count("sleep") < 2 and process.poll() is None and time.monotonic() < end:
             time.sleep(0.01)
-        self.assertEqual([*dict.fromkeys(self.machine.asked())], [*ACCOUNT, RELOAD, CLOSE, "sleep"])
+        self.assertEqual([*dict.fromkeys(self.machine.asked())], [RELOAD, CLOSE, "sleep"])
         yield process
 
     def goes_on(self, process):
         status, said, calls = self.machine.ended(process, "postinst")
         calls = [each for each in calls if each != "sleep"]
-        self.assertEqual((status, said, calls), (0, "", [*ACCOUNT, RELOAD, *BY_SOCKET_AGAIN]))
+        self.assertEqual((status, said, calls), (0, "", [RELOAD, *BY_SOCKET_AGAIN]))
 
     def test_it_waits_for_nobody_if_nobody_is_connected(self):
         self.goes_on(self.machine.started(self.machine.script("postinst"), "postinst", "configure", "0.9.0"))
@@ -262,7 +309,7 @@ class Connections(Case):
 class Desks(Case):
     """An upgrade where there is a desk, which is looked at in a copy."""
 
-    old = "gr-desk: an earlier program made {}: copy it by gr-desk backup, and say gr-desk migrate, by its account\n"
+    old = "gr-desk: {} is in an older format: as _gr_desk, run gr-desk backup and then gr-desk migrate\n"
 
     def setUp(self):
         compile_tools()
@@ -274,23 +321,23 @@ class Desks(Case):
     def test_a_desk_of_this_version_runs_again(self):
         make_desk(self.machine.desk)
         self.machine.has_active("gr_desk.service")
-        calls = [*ACCOUNT, RELOAD, "runuser", "restart gr_desk.service"]
+        calls = [RELOAD, "runuser", "restart gr_desk.service"]
         self.assertEqual(self.machine.upgrade(), (0, "", calls))
 
     def test_a_desk_is_looked_at_before_its_socket_is_closed(self):
         make_desk(self.machine.desk)
         self.machine.has_active(*BY_SOCKET)
-        self.assertEqual(self.machine.upgrade(), (0, "", [*ACCOUNT, RELOAD, "runuser", *BY_SOCKET_AGAIN]))
+        self.assertEqual(self.machine.upgrade(), (0, "", [RELOAD, "runuser", *BY_SOCKET_AGAIN]))
 
     def test_a_desk_of_an_earlier_version_is_not_started_again_and_is_left(self):
         version_1.unpack(self.machine.desk)
         held = self.machine.desk.read_bytes()
         self.machine.has_active(*BY_SOCKET)
-        fault = "is not started again, since the desk has fault F7 TooOld"
+        fault = "was not restarted: the desk reports fault F7 TooOld"
         text = f"gr-desk: gr_desk.socket {fault}\ngr-desk: gr_desk-private.service {fault}\n"
         calls = ["runuser", CLOSE, STOP_WAY, "stop gr_desk-private.service", "restart gr_desk-backup.timer"]
         text += self.old.format(self.machine.desk)
-        self.assertEqual(self.machine.upgrade(), (0, text, [*ACCOUNT, RELOAD, *calls]))
+        self.assertEqual(self.machine.upgrade(), (0, text, [RELOAD, *calls]))
         self.is_left(held)
 
     def test_a_desk_of_an_earlier_version_that_nothing_serves_is_reported_and_left(self):
@@ -298,6 +345,35 @@ class Desks(Case):
         held = self.machine.desk.read_bytes()
         self.assertEqual(self.machine.upgrade()[:2], (0, self.old.format(self.machine.desk)))
         self.is_left(held)
+
+
+class EarlierAccount(Case):
+    """An install where the folder of the desk belongs to the account of an earlier version, or to another one."""
+
+    def install(self, *words, owner="gr_desk", files=("desk.db",), **more):
+        machine = Machine(self.folder())
+        (machine.bin / "stat").write_text(f"#!/bin/sh\necho {owner}\n")
+        (machine.bin / "stat").chmod(0o755)
+        machine.home.mkdir()
+        for name in files:
+            (machine.home / name).touch()
+        return machine.run("preinst", *words, **more)
+
+    def test_it_stops_if_that_account_has_a_desk_and_says_how_to_rename_it(self):
+        for words in ["install"], ["install", "0.9.0"], ["upgrade", "0.9.0"]:
+            with self.subTest(words=words):
+                status, told, calls = self.install(*words)
+                self.assertEqual((status, calls), (1, []))
+                for line in "usermod --login _gr_desk gr_desk", "groupmod --new-name _gr_desk gr_desk":
+                    self.assertIn(f"\n    {line}\n", told)
+
+    def test_it_goes_on_if_the_folder_is_empty_or_of_another_account_or_in_an_image(self):
+        for options in {"files": ()}, {"owner": "_gr_desk"}, {"owner": "root"}, {"DPKG_ROOT": "/image"}:
+            with self.subTest(options=options):
+                self.assertEqual(self.install("install", **options), (0, "", []))
+
+    def test_an_upgrade_that_is_taken_back_goes_on(self):
+        self.assertEqual(self.install("abort-upgrade", "2.0.0"), (0, "", []))
 
 
 class InAFolder(Case):
@@ -317,10 +393,9 @@ class InAFolder(Case):
         (of_package / "gr_desk.socket").touch()
         # A link to the unit of the package, as an enabled unit has it, hides nothing.
         (by_hand / "gr_desk.socket").symlink_to(of_package / "gr_desk.socket")
-        calls = [f"systemd-sysusers --root={self.root} gr-desk.conf"]
-        calls.append(f"systemd-tmpfiles --root={self.root} --create gr-desk.conf")
-        hidden = "gr-desk: /etc/systemd/system/gr_desk.service hides the unit of the package\n"
-        self.assertEqual(self.run_there("postinst", "configure"), (0, hidden, calls))
+        file = "/etc/systemd/system/gr_desk.service"
+        hidden = f"gr-desk: {file} overrides the packaged unit; remove it to use the packaged one\n"
+        self.assertEqual(self.run_there("postinst", "configure"), (0, hidden, []))
 
     def test_a_removal_says_nothing_where_no_desk_is(self):
         self.assertEqual(self.run_there("postrm", "remove"), (0, "", []))
@@ -344,6 +419,7 @@ class ByDpkg(Case):
             raise unittest.SkipTest("dpkg is not installed")
         if os.geteuid() != 0:
             raise unittest.SkipTest("only root installs a package")
+        requires_debhelper()
         made = cls.shared_folder() / "made"
         expect("package", tool("package", made)[:2], (0, b"ok\n"))
         [cls.deb] = made.glob("*.deb")
@@ -373,7 +449,7 @@ class ByDpkg(Case):
         account = (self.root / "etc/passwd").read_text().split(":")
         about = self.home.stat()
         self.assertEqual((stat.filemode(about.st_mode), about.st_uid), ("drwx------", int(account[2])))
-        self.assertEqual((account[0], account[6].strip()), ("gr_desk", "/usr/sbin/nologin"))
+        self.assertEqual((account[0], account[6].strip()), ("_gr_desk", "/usr/sbin/nologin"))
         self.assertEqual([*self.home.iterdir()], [])
 
     def test_dpkg_finds_each_file_of_the_package_as_it_must_be(self):
@@ -386,7 +462,7 @@ class ByDpkg(Case):
         for word in "--remove", "--purge":
             with self.subTest(word=word):
                 said = self.dpkg(word, "gr-desk").err.decode()
-                self.assertTrue(said.endswith(LEFT) or not self.home.exists(), said)
+                self.assertTrue(LEFT in said or not self.home.exists(), said)
         names = (str(path.relative_to(self.root)) for path in self.root.rglob("*"))
         left = sorted(name for name in names if "gr-desk" in name or "gr_desk" in name)
         kept = ["var/lib/gr_desk", "var/lib/gr_desk/desk.db"] if self.has_account() else []

@@ -14,8 +14,6 @@ ORDER = [
     *["error", "inventory", "output", "dates", "interruption", "parser", "new_file", "regular_file", "mail_head"],
     *["desk", "acts", "journal", "ballots", "web", "package", "commands", "cli"],
 ]
-# Debian runs these, and asks for the mode.
-OF_DEBIAN = {"postinst", "postrm", "prerm"}
 
 
 def modules():
@@ -93,5 +91,4 @@ class Rooms(Case):
 
     def test_one_file_of_the_tools_is_run(self):
         paths = [path for path in (TOP / "tools").rglob("*") if path.is_file() and os.access(path, os.X_OK)]
-        ours = [path for path in paths if not (path.parent.name == "debian" and path.name in OF_DEBIAN)]
-        self.assertEqual(ours, [Path(TOP / "tools" / "gr-desk")])
+        self.assertEqual(paths, [Path(TOP / "tools" / "gr-desk")])

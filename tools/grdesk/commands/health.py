@@ -21,7 +21,7 @@ def about_answer(address):
     try:
         status = exchange(address, request_of("GET", "/roll"), PATIENCE).status
     except NoResponse as error:
-        yield f"{address} gave no answer to GET /roll within ten seconds: {error}"
+        yield f"{address} gave no answer to GET /roll: {error}"
     else:
         if status != 200:
             yield f"{address} answered GET /roll with status {status}, and not with the roll"

@@ -93,7 +93,9 @@ def lay_command(place):
 
 def lay_pages(prefix, work):
     """The man pages, and what completes words in bash."""
-    if subprocess.run([TOP / "tools" / "gr-desk", "manual", work], check=False).returncode != 0:
+    # By the Python that runs this, and not by one that somebody has in front.
+    line = [sys.executable, "-B", TOP / "tools" / "gr-desk", "manual", work]
+    if subprocess.run(line, check=False).returncode != 0:
         raise Failed("the man pages could not be made")
     for page in sorted((work / "man" / "man1").glob("*.1")):
         lay(page, prefix / "man" / "man1" / page.name, 0o644)

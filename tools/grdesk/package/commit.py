@@ -46,14 +46,6 @@ def last_commit() -> Optional[Commit]:
     return Commit(digits, int(moment), author)
 
 
-def listed(folder):
-    """The files of a folder of the sources that belong to a commit, or will."""
-    text = git("ls-files", "--", folder)
-    if not text:
-        raise Failed(f"git lists no file of {folder}")
-    return text.splitlines()
-
-
 def changed_since():
     """What differs from the last commit, by the names of the files."""
     text = git("status", "--porcelain", "--untracked-files=all")
