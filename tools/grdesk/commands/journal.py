@@ -209,10 +209,12 @@ def add_list(command):
 def add_replay(command):
     line = "[JOURNAL] DESK [OPTION ..]"
     example = "gr-desk journal replay journal desk.db --dry-run"
-    parser = command.add_command("replay", "bring a desk that was restored up to date from its journal", [line], examples=[example])
+    what = "bring a desk that was restored up to date from its journal"
+    parser = command.add_command("replay", what, [line], examples=[example])
     add_journal_and_desk(parser)
     parser.add_flag("--dry-run", help="say what would be entered, and enter nothing")
-    parser.add_argument("--without", metavar="N", type=number_of_act, help="skip act N, for example a close entered by mistake")
+    left_out = "skip act N, for example a close entered by mistake"
+    parser.add_argument("--without", metavar="N", type=number_of_act, help=left_out)
 
 
 def add_check(command):
@@ -223,10 +225,12 @@ def add_check(command):
 
 def add_settle(command):
     what, lines = "record what the desk did with an act whose answer was lost", ["N accepted [--as COUNT]", "N refused"]
-    parser = command.add_command("settle", what, lines, examples=["gr-desk journal --journal journal settle 7 accepted"])
+    example = "gr-desk journal --journal journal settle 7 accepted"
+    parser = command.add_command("settle", what, lines, examples=[example])
     add_number(parser)
     parser.add_argument("said", metavar="accepted|refused", help="what status or roll says that the desk did")
-    parser.add_argument("--as", metavar="COUNT", dest="count", type=number_at_desk, help="its number on the desk, if settle asks for it")
+    number = "its number on the desk, if settle asks for it"
+    parser.add_argument("--as", metavar="COUNT", dest="count", type=number_at_desk, help=number)
 
 
 def add_due(command):
