@@ -88,6 +88,17 @@ class Named(Case):
         self.assertEqual(named(), sorted({*filter(None, PACKAGES.values())} | BESIDE))
 
 
+class Pasted(Case):
+    def test_a_block_of_a_page_has_nothing_after_apt(self):
+        """apt hands what is pasted after it to the programs that it runs, and the shell never gets it."""
+        ends = {}
+        for page in [TOP / "README.md", *sorted((TOP / "docs").glob("*.md"))]:
+            for block in re.findall(r"^```\n(.*?)^```$", page.read_text(), re.M | re.S):
+                if found := re.search(r"^apt(?:-get)? install .*\n", block, re.M):
+                    ends[page.name] = block[found.end():]
+        self.assertEqual(ends, {"README.md": "", "service.md": ""})
+
+
 class Installing(Case):
     """.ci/run in a tree of its own, with a gate that passes."""
 
