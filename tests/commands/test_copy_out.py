@@ -82,7 +82,7 @@ class Refusals(Sending):
 
     def test_nothing_is_sent_without_a_key_or_a_command(self):
         for lacks in self.ways:
-            text = f"{lacks} is not set, as in /etc/default/gr-desk; it goes out encrypted alone"
+            text = f"{lacks} is not set; set COPY_KEY and COPY_TO, as in /etc/default/gr-desk"
             without = {name: value for name, value in self.ways.items() if name != lacks}
             for environment in without | {lacks: ""}, without:
                 with self.subTest(environment=environment):

@@ -13,10 +13,15 @@ PACKAGES = {
     "age": "age",
     "age-keygen": "age",
     "bash": None,
-    "cc": "gcc",
+    "autopkgtest": "autopkgtest",
+    "cc": "build-essential",
     "chromium": "chromium",
     "curl": "curl",
+    "debootstrap": "debootstrap",
+    "dh": "debhelper",
     "dpkg": None,
+    "dpkg-buildpackage": "build-essential",
+    "dpkg-checkbuilddeps": "build-essential",
     "dpkg-deb": None,
     "git": "git",
     "gpg": "gnupg",
@@ -86,6 +91,17 @@ class Named(Case):
 
     def test_readme_names_these_packages_and_no_others(self):
         self.assertEqual(named(), sorted({*filter(None, PACKAGES.values())} | BESIDE))
+
+
+class Pasted(Case):
+    def test_a_block_of_a_page_has_nothing_after_apt(self):
+        """apt hands what is pasted after it to the programs that it runs, and the shell never gets it."""
+        ends = {}
+        for page in [TOP / "README.md", *sorted((TOP / "docs").glob("*.md"))]:
+            for block in re.findall(r"^```\n(.*?)^```$", page.read_text(), re.M | re.S):
+                if found := re.search(r"^apt(?:-get)? install .*\n", block, re.M):
+                    ends[page.name] = block[found.end():]
+        self.assertEqual(ends, {"README.md": "", "service.md": ""})
 
 
 class Installing(Case):

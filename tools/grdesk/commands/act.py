@@ -213,12 +213,14 @@ def parser():
         act.add_words(*number, *((f"{field}=", text) for field, text in fields.items()))
     command.add_argument("--desk", metavar="FILE", help="the file of the desk, if no `serve` has it open")
     add_address(command)
-    command.add_argument("--at", type=moment_number, metavar="DATE", help="with --desk: its date, like 2026-01-14T21:07:00Z")
+    date = "with --desk: its date, like 2026-01-14T21:07:00Z"
+    command.add_argument("--at", type=moment_number, metavar="DATE", help=date)
     command.add_flag("--ahead", help="with --desk: allow a future DATE, for a rehearsal")
     command.add_argument("--journal", metavar="FILE", help="keep the act and its answer in FILE")
     command.add_argument("--source", metavar="TEXT", help="where the act came from: a Message-ID, or @FILE of a mail")
-    command.add_argument("--hold", type=duration, metavar="DURATION", help="with a journal: put it on hold for 24h, 2d, ..")
-    command.add_argument("--hold-until", type=moment_number, metavar="DATE", help="with a journal: put it on hold until DATE")
+    span, moment = "with a journal: put it on hold for 24h, 2d, ..", "with a journal: put it on hold until DATE"
+    command.add_argument("--hold", type=duration, metavar="DURATION", help=span)
+    command.add_argument("--hold-until", type=moment_number, metavar="DATE", help=moment)
     command.add_flag("--yes", help="send it unasked, even if acts on hold are lost by it")
     command.add_flag("--give-up", help="with --desk: give up acts that the desk lacks")
     command.add_flag("--explain", help="with --port or --socket: also explain the answer")

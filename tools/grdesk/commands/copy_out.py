@@ -34,7 +34,7 @@ def setting(name):
     """What the environment says."""
     text = os.environ.get(name)
     if not text:
-        raise Refused(f"nothing was sent: {name} is not set, as in /etc/default/gr-desk; it goes out encrypted alone")
+        raise Refused(f"nothing was sent: {name} is not set; set COPY_KEY and COPY_TO, as in /etc/default/gr-desk")
     return text
 
 

@@ -185,7 +185,7 @@ def parser():
         examples=["gr-desk journal --journal journal list 1"],
         statuses=[
             (0, "done"),
-            (1, "refused, in the way of something, or check found a difference"),
+            (1, "refused, something is in the way, or `check` found a difference"),
             (2, "wrong arguments"),
             (3, "failed; a line says why"),
         ],
@@ -200,44 +200,60 @@ def parser():
 # The words of each command.
 
 
+def ends(done, refused):
+    """The exit statuses of a command: what it did, and what it is refused for."""
+    return [(0, done), (1, refused), (2, "wrong arguments"), (3, "failed; a line says why")]
+
+
 def add_list(command):
     what = "print what was entered, and what was answered"
-    parser = command.add_command("list", what, ["[R]"], examples=["gr-desk journal --journal journal list 1"])
+    example, statuses = "gr-desk journal --journal journal list 1", ends("printed", "no act on R, or a bad journal")
+    parser = command.add_command("list", what, ["[R]"], examples=[example], statuses=statuses)
     parser.add_argument("resolution", metavar="R", nargs="?", help="only the acts on this one, with its texts")
 
 
 def add_replay(command):
     line = "[JOURNAL] DESK [OPTION ..]"
     example = "gr-desk journal replay journal desk.db --dry-run"
-    parser = command.add_command("replay", "bring a desk that was restored up to date from its journal", [line], examples=[example])
+    what = "bring a desk that was restored up to date from its journal"
+    statuses = ends("DESK has all acts of the journal", "DESK is in use, or no desk of this journal")
+    parser = command.add_command("replay", what, [line], examples=[example], statuses=statuses)
     add_journal_and_desk(parser)
     parser.add_flag("--dry-run", help="say what would be entered, and enter nothing")
-    parser.add_argument("--without", metavar="N", type=number_of_act, help="skip act N, for example a close entered by mistake")
+    left_out = "skip act N, for example a close entered by mistake"
+    parser.add_argument("--without", metavar="N", type=number_of_act, help=left_out)
 
 
 def add_check(command):
     what, line = "compare each row of a desk with its journal", "[JOURNAL] DESK [--from COPY]"
     example = "gr-desk journal check journal desk.db"
-    add_journal_and_desk(command.add_command("check", what, [line], examples=[example]))
+    statuses = ends("no difference", "a difference, or something is in the way")
+    add_journal_and_desk(command.add_command("check", what, [line], examples=[example], statuses=statuses))
 
 
 def add_settle(command):
     what, lines = "record what the desk did with an act whose answer was lost", ["N accepted [--as COUNT]", "N refused"]
-    parser = command.add_command("settle", what, lines, examples=["gr-desk journal --journal journal settle 7 accepted"])
+    example = "gr-desk journal --journal journal settle 7 accepted"
+    statuses = ends("kept in the journal", "it cannot be so, or a bad journal")
+    parser = command.add_command("settle", what, lines, examples=[example], statuses=statuses)
     add_number(parser)
     parser.add_argument("said", metavar="accepted|refused", help="what status or roll says that the desk did")
-    parser.add_argument("--as", metavar="COUNT", dest="count", type=number_at_desk, help="its number on the desk, if settle asks for it")
+    number = "its number on the desk, if settle asks for it"
+    parser.add_argument("--as", metavar="COUNT", dest="count", type=number_at_desk, help=number)
 
 
 def add_due(command):
     what = "enter the acts on hold whose time has come"
-    parser = command.add_command("due", what, ["[--yes]"], examples=["gr-desk journal --journal journal due"])
+    example = "gr-desk journal --journal journal due"
+    statuses = ends("entered, or nothing is due yet", "an act was refused, or the desk lacks acts")
+    parser = command.add_command("due", what, ["[--yes]"], examples=[example], statuses=statuses)
     parser.add_flag("--yes", help="also enter a call whose voting period is over")
 
 
 def add_drop(command):
     example = "gr-desk journal --journal journal drop 7 --source @objection.eml"
-    parser = command.add_command("drop", "take back an act that is on hold", ["N [--source TEXT]"], examples=[example])
+    what, statuses = "take back an act that is on hold", ends("taken back", "it is not on hold, or a bad journal")
+    parser = command.add_command("drop", what, ["N [--source TEXT]"], examples=[example], statuses=statuses)
     add_number(parser)
     parser.add_argument("--source", metavar="TEXT", help="where the objection came from: a Message-ID, or @FILE")
 
