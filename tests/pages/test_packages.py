@@ -27,10 +27,10 @@ PACKAGES = {
     "gpg": "gnupg",
     "gpgconf": "gnupg",
     "gpgv": "gnupg",
+    "lintian": "lintian",
     "man": "man-db",
     "openssl": "openssl",
     "python3": "python3",
-    "readelf": "binutils",
     "sleep": None,
     "sqlite3": "sqlite3",
     "systemd-analyze": "systemd",
@@ -42,8 +42,8 @@ PACKAGES = {
 }
 # Other names of Chromium, and what no package has.
 OTHERS = {"chromium-browser", "google-chrome", "rt"}
-# A compiler is nothing without the headers of the C library.
-BESIDE = {"libc6-dev"}
+# A compiler is nothing without the headers of the C library, and debhelper needs this one for Python.
+BESIDE = {"libc6-dev", "dh-python"}
 
 INSTALL = "install -y -q --no-install-recommends"
 MISSING = b".ci/run: WARNING: these packages are missing, and their tests are skipped: age\n"
