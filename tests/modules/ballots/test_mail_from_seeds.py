@@ -12,6 +12,7 @@ from pathlib import Path
 
 from tests.support.case import Case
 from tests.support.made_boxes import box_differences
+from tests.support.made_heads import another_than_by
 from tests.support.made_mails import differences, made, mails_in, outcome
 from tests.support.made_parts import boundary_of, shows_other_armour, text_leaf
 from tests.support.made_texts import (
@@ -84,6 +85,9 @@ class Truths(Case):
                 self.assertEqual(text.faults, UNCLEAR)
                 self.assertTrue(leaf.body.startswith((b"\xef\xbb\xbf", b"=EF", b"77u/")), leaf.body)
         self.assertGreaterEqual(marked, 10)
+
+    def test_no_word_before_a_host_is_by_but_those_that_are_meant(self):
+        self.assertEqual([*map(another_than_by, ("bY", "By", "by1", "b"))], ["bYx", "Byx", "by1", "b"])
 
     def test_no_two_boundaries_of_a_mail_are_one(self):
         for seed in range(200):
