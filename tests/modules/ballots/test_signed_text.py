@@ -329,6 +329,18 @@ class Gpg(ReadingCase):
         shortened = with_form(self.post_as_in_quoted_printable(), "=20" * 6_700)
         self.are_refused({"quoted-printable": mail(shortened, "Content-Transfer-Encoding: quoted-printable")})
 
+    def test_a_form_in_a_line_of_the_head_in_quoted_printable_is_refused(self):
+        """For gpg that line is no head. It says so, and verifies the post behind it."""
+        for line_end in b"=0A", b"=0D=0A", b"=0a":
+            form_line = b"Hash: x" + line_end * 2 + FILLED.encode().replace(b"\n", line_end) + b"\n"
+            content = self.post_as_in_quoted_printable().replace(b"\n\n", b"\n" + form_line, 1)
+            content = mail(content, "Content-Transfer-Encoding: quoted-printable")
+            with self.subTest(line_end=line_end):
+                ran = self.gpg("--decrypt", given=content)
+                self.assertIn(b"Good signature", ran.stderr)
+                self.assertIn(b"tea", ran.stdout)
+                self.assertEqual(line_of(content), BESIDE)
+
     def post_as_in_quoted_printable(self):
         """The post, of which the armour has one = that stands before no byte in quoted-printable."""
         for more in range(60):

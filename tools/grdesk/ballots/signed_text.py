@@ -23,6 +23,8 @@ ENCRYPTED = ["multipart/encrypted", "application/pgp-encrypted", "application/pk
 PGP_SIGNATURE = "application/pgp-signature"
 SIGNATURES = [PGP_SIGNATURE, "application/pkcs7-signature", "application/x-pkcs7-signature"]
 MARKERS = BEGIN.encode(), END.encode()
+# The end of a line in quoted-printable that is none in the file.
+LINE_END = re.compile(rb"=0[Aa]")
 # Versions of signatures, and methods of compression.
 VERSION = re.compile(rb"[\0-\6]")
 
@@ -155,10 +157,13 @@ class Mailed:
 
     def is_same(self, taken):
         """Whether the armour lines of a part are those of the file too, or of the part alone once it is decoded. A line
-        of the one may be in the midst of a line of the other."""
+        of the one may be in the midst of a line of the other, and a line of the file may be several once it is decoded:
+        what a verifier passes over as one line of a head could have a form in it."""
         if not self.raw:
             return True
         if len(self.raw) > len(WHOLE) or len(self.raw) != len(self.armour_of(taken)):
+            return False
+        if LINE_END.search(self.content, self.raw[0].begin, self.raw[-1].end):
             return False
         before = (Part(self.content, taken.begin, line.begin, encoding=taken.encoding).content for line in self.raw)
         return taken.encoding == "quoted-printable" and all(not each or each.endswith(b"\n") for each in before)
