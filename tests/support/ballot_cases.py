@@ -258,7 +258,8 @@ CASES = {
     "a field `Content-Type` that programs read in different ways": [
         mail(FILLED, "Content-Type : text/plain"), mail(FILLED, "Content-Type: text/plain; charset*=x; charset*0=y"),
         mail(FILLED, "Content-Type: text/plain; charset*=u\0tf'x"), mail(FILLED, f"Content-Type{NO_BREAK}: text/plain"),
-        mail(FILLED, 'Content-Type: multipart/mixed; boundary=a; boundary="b"'), mail(FILLED, "Content-Type: text")],
+        mail(FILLED, 'Content-Type: multipart/mixed; boundary=a; boundary="b"'), mail(FILLED, "Content-Type: text"),
+        mail(f"--a\n\n{FILLED}--a--\n", 'Content-Type: multipart/mixed; boundary="a "')],
     "two fields `Message-ID` that differ": [mail(FILLED, "Message-ID: <2@example.org>")],
     "parts with no line between them": [mail(FILLED, "Content-Type: multipart/mixed")],
     "parts in one another, a thousand deep": [nested(1_000)],
