@@ -126,6 +126,11 @@ class Texts(ReadingCase):
         self.is_read_as(MORE_THAN_ONE, within=parts("mixed", signed_part(plain("\ufeff" + signed()))),
                         within_as_it_is=mail(WITHIN, 'Content-Type: multipart/signed; boundary="b"'))
 
+    def test_a_mark_before_the_armour_of_a_detached_signature_makes_it_none(self):
+        armour = "\ufeff" + POST[POST.index("-----BEGIN PGP SIGNATURE") :]
+        signature = MIMEApplication(armour.encode(), "pgp-signature", _encoder=as_it_is)
+        self.is_read_as(NO_SIGNATURE_IN_IT, mail=parts("signed", plain(), signature))
+
     def test_a_lone_cr_in_quoted_printable_hides_nothing(self):
         content = mail("x=\rhidden\ny", "Content-Transfer-Encoding: quoted-printable")
         self.assertEqual(mail_of(content).written().text, "x=\rhidden\ny")

@@ -141,8 +141,9 @@ class Mailed:
         as_it_is = [(self.content, self.raw)] if self.raw else []
         for whole, its_lines in ((content, lines), *as_it_is):
             check_lengths(whole, its_lines)
-            begin, end = its_lines[-2:]
-            if begin.armour is not Armour.SIGNATURE or not is_signature(whole[begin.end : end.begin]):
+            pair = its_lines[-2:]
+            is_pair = [line.armour for line in pair] == DETACHED
+            if not is_pair or not is_signature(whole[pair[0].end : pair[1].begin]):
                 raise NotRead(NO_SIGNATURE_IN_IT)
 
     def check_armour(self, taken):
