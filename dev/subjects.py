@@ -8,7 +8,7 @@ SUBJECTS = {
     ),
     "route": (
         "RouteLemmas, PathWords, entry_of, roll_is_asked_by_post, ACTS, ROUTES, routes_of, read_path, asked, "
-        "closed.rt"
+        "ServedSheets, closed.rt"
     ),
     "order of fields": "entry_of, demand.rt, ACTS, bad field, fields.rt",
     "valid desk": "Valid, Damaged, IsRightlyChosen, check_tables, valid desk, sample.rattle",
@@ -139,7 +139,7 @@ SUBJECTS = {
         "commits.rt, CREATE TABLE, stock SQLite"
     ),
     "line of a journal": (
-        "LINES, entry.py, journal.py, timeline.py, hold.py, replay.py, delivery.py, journaled, "
+        "LINES, entry.py, journal.py, listing.py, hold.py, replay.py, delivery.py, journaled, "
         "journal_case.py, json, row.py, Journals"
     ),
     "version of a file": (

@@ -60,9 +60,9 @@ class Private:
         """Has something done there, and waits for that."""
         self.process.stdin.write(f"{word}\n".encode())
         self.process.stdin.flush()
-        told = self.process.stdout.readline()
-        if told != b"done\n":
-            fail(f"{word} in the network of its own: {told}")
+        message = self.process.stdout.readline()
+        if message != b"done\n":
+            fail(f"{word} in the network of its own: {message}")
 
 
 @contextmanager

@@ -47,7 +47,7 @@ class Table(ActCase):
         for form in "--help", "-h":
             with self.subTest(form=form):
                 ran = act(None, form)
-                names = [line.split()[0] for line in ran.out.decode().splitlines() if re.match("    [a-z]+  ", line)]
+                names = [line.split()[0] for line in ran.out.decode().splitlines() if re.match("  [a-z]+  ", line)]
                 self.assertEqual(sorted(names), sorted(ACTS))
                 self.assertEqual((ran.status, ran.err), (0, b""))
 
@@ -191,12 +191,12 @@ class Votes(ActCase):
                 self.assertNotIn(secret.encode(), words)
 
 
-NO_ANSWER = "lost: the answer did not come whole; what was accepted stands, so look at the status"
-VOTE_AGAIN = "send the vote again, with the same token: where it was accepted already, `Received` of the result is one "
+NO_ANSWER = "lost: the answer did not come whole; the desk may have accepted the act, so look at the status"
+VOTE_AGAIN = "send the vote again, with the same token: if it was accepted before, `Received` of the result is one "
 VOTE_AGAIN += "higher for that"
 BAD_DAYS = "days= must be a whole number in decimal, with no zero in front, or one after a hyphen"
 TOO_LARGE = "an import has 1,048,576 bytes at most; import the roll in parts, since an import removes nobody"
-FAULT = "the desk failed; once it is opened again it has this act, or has it not: look before you send it again"
+FAULT = "the desk failed, and may have this act or not: look before you send it again"
 NO_OUTPUT = "lost: standard output could not be written"
 # What comes of a response, at a port.
 ANSWERS = [
@@ -239,14 +239,14 @@ class Answers(ActCase):
 
     def test_a_vote_that_is_lost_must_be_sent_again_with_its_token(self):
         with answering(b"") as (port, _):
-            told = NO_ANSWER.replace("what was accepted stands, so look at the status", VOTE_AGAIN)
-            self.assertEqual(act(port, "vote", "1", "login=d1", given=b"12\ntokenA01\n"), lost(told))
+            message = NO_ANSWER.replace("the desk may have accepted the act, so look at the status", VOTE_AGAIN)
+            self.assertEqual(act(port, "vote", "1", "login=d1", given=b"12\ntokenA01\n"), lost(message))
 
     def test_where_nobody_listens_nothing_was_sent(self):
         with socket.create_server((LOCAL, 0)) as listener:
             port = listener.getsockname()[1]
-        told = lost(f"nothing was sent: port {port} of 127.0.0.1: Connection refused")
-        self.assertEqual(act(port, "close", "1"), told)
+        message = lost(f"nothing was sent: port {port} of 127.0.0.1: Connection refused")
+        self.assertEqual(act(port, "close", "1"), message)
 
     def test_an_answer_that_cannot_be_printed_is_lost(self):
         with answering(response(200, "ok 1\n")) as (port, _), open("/dev/full", "wb") as full:
@@ -302,14 +302,14 @@ class Terminals(ActCase):
     def test_a_vote_that_is_not_confirmed_is_not_sent(self):
         for no in b"n\n", b"\n", b"\x04", b"\xff\n":
             with self.subTest(no=no):
-                told = b"nothing was sent: the vote was not confirmed\r\n"
-                _, status = at_terminal(1, (RANKS, b"12\n"), (TOKEN_ASKED, b"\n"), (SURE, no), (told, b""))
+                message = b"nothing was sent: the vote was not confirmed\r\n"
+                _, status = at_terminal(1, (RANKS, b"12\n"), (TOKEN_ASKED, b"\n"), (SURE, no), (message, b""))
                 self.assertEqual(status, 1)
 
     def test_a_terminal_that_ends_before_the_token_or_gives_no_utf_8_is_named(self):
         # The end of input, as by Ctrl-D, and a byte that begins no character.
         ended = (RANKS, b"12\n"), (TOKEN_ASKED, b"\x04"), (b"act: the terminal ended before the token\r\n", b"")
-        no_text = (RANKS, b"\xff\n"), (b"act: the terminal gave no UTF-8\r\n", b"")
+        no_text = (RANKS, b"\xff\n"), (b"act: what was typed is not UTF-8\r\n", b"")
         for words, steps in ("it ends", ended), ("no UTF-8", no_text):
             with self.subTest(words=words):
                 _, status = at_terminal(1, *steps)

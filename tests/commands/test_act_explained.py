@@ -42,11 +42,11 @@ class ExplainedRuns(Case):
         """Without --explain an act prints what is expected, by one connection. With it a detail stands there besides,
         by so many connections."""
         with_detail = expected._replace(err=expected.err + said(detail))
-        for option, connections, told in ([], 1, expected), (["--explain"], count, with_detail):
+        for option, connections, message in ([], 1, expected), (["--explain"], count, with_detail):
             with self.subTest(option=option), serve(self.copy_of(file), connections, "--at", at) as desk:
                 streams = {"stdin": self.ballot(ballot)} if ballot else {}
                 ran = tool("act", "--port", desk.port, *option, *words, **streams)
-                self.assertEqual(ran, told)
+                self.assertEqual(ran, message)
                 self.assertEqual(desk.ended(), Ran(0, b"", b""), "serve, after its last connection")
 
     def test_a_refused_casting_vote_is_explained_by_a_port_with_one_further_connection(self):
@@ -68,14 +68,15 @@ class ExplainedRuns(Case):
     def test_after_a_vote_stand_the_name_of_the_developer_and_the_summaries_and_a_rank_that_may_be_an_error(self):
         ranks = ["place 1, Red: no rank", "place 2, Red: rank 2", "place 3, Red: rank 10"]
         ranks.append("place 4, None of the above: rank 1")
-        ranks.append("rank 10 is allowed, with 4 places: is it a typing error? A later ballot replaces this one")
+        ranks.append("rank 10 is allowed, but there are only 4 places: is it a typing error? A later ballot replaces "
+                     "this one")
         line = ["--desk", self.copy_of(self.called), "--at", CALLED, "--ahead", "vote", 1, "login=d4"]
         ran = tool("act", *line, stdin=self.ballot("-2a1\ntokenA01\n"))
         self.assertEqual((ran.status, ran.err), (0, said("the vote of d4, N", *ranks)))
 
     def test_voters_before_the_close_are_refused_with_what_that_means(self):
-        told = f"gr-desk voters: refused 24 NotRevealed: {MEANINGS['NotRevealed']}\n"
-        self.assertEqual(tool("voters", self.copy_of(self.called), 1), Ran(1, b"", told.encode()))
+        message = f"gr-desk voters: refused 24 NotRevealed: {MEANINGS['NotRevealed']}\n"
+        self.assertEqual(tool("voters", self.copy_of(self.called), 1), Ran(1, b"", message.encode()))
 
     def test_what_the_page_of_examples_shows_comes_so(self):
         file = self.folder() / "examples.db"

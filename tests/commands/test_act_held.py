@@ -5,6 +5,7 @@ import json
 import time
 
 from tests.commands.journal_case import SECRETS, JournalCase, is_silent, put_back
+from tests.support.failing import failing
 from tests.support.journaled import CALL, CALLED, DISCUSSION, ENDED, Journaled, accepted_of, reports
 from tests.support.program import DAY, T0, copy_desk, receipt
 from grdesk.acts.refusal import MEANINGS
@@ -39,7 +40,7 @@ class HeldActs(JournalCase):
         cls.drop = cls.dropped.tool("drop", "8", "--source", f"@{mail}")
 
     def test_an_act_with_a_later_date_waits_behind_those_that_are_held(self):
-        give_up = "nothing was sent: ", "are held, 5, 6, 8: say gr-desk journal due"
+        give_up = "nothing was sent: ", "are on hold, 5, 6, 8: first run gr-desk journal due"
         for words, status, *texts in [
             ("one that waits", 0, "held 5 until 2026-01-04T00:00:00Z"),
             ("a later one", 0, "held 6 behind 5"),
@@ -52,8 +53,8 @@ class HeldActs(JournalCase):
                 reports(words, self.came[words], status, *texts)
 
     def test_a_list_has_until_when_an_act_is_held(self):
-        told = "held until 2026-01-04T00:00:00Z", "held after those before it"
-        reports("the list", self.desk.tool("list"), 0, *told)
+        message = "held until 2026-01-04T00:00:00Z", "held after those before it"
+        reports("the list", self.desk.tool("list"), 0, *message)
 
     def test_due_enters_what_may_be_entered_and_names_the_first_whose_time_has_not_come(self):
         desk = self.copy_of(self.desk)
@@ -73,13 +74,29 @@ class HeldActs(JournalCase):
         reports("an objection", self.drop, 0, "ok", "gr-desk journal due enters it")
         line = json.loads(self.dropped.lines()[-1])
         self.assertEqual((line["form"], line["line"], line["source"]["message_id"]), (2, "dropped", "<no@d4>"))
-        told = "dropped\n      source of the objection: Message-ID <no@d4>, SHA-256 "
-        reports("the list", self.dropped.tool("list"), 0, told)
+        message = "dropped\n      source of the objection: Message-ID <no@d4>, SHA-256 "
+        reports("the list", self.dropped.tool("list"), 0, message)
+
+    def test_due_says_after_which_act_its_journal_took_no_more(self):
+        desk = self.copy_of(self.desk)
+        line = ["journal", "due", "--journal", desk.journal]
+        ran = desk.run(*line, environment=failing(self.folder(), lines=2))
+        why = f"{desk.journal} cannot be written: No space left on device"
+        message = f"nothing more was sent after 5: {why}; 6 is still on hold: mend that, and run gr-desk journal due"
+        reports("due on a full disk", ran, 3, "5: ok 6\n", message)
+        is_silent("due on a full disk", ran, "nothing was sent")
+        reports("the next due", desk.tool("due"), 0, "6: ok 7\n8 (amend")
+
+    def test_due_says_that_nothing_was_sent_if_its_journal_does_not_take_the_first_act(self):
+        desk = self.copy_of(self.desk)
+        line = ["journal", "due", "--journal", desk.journal]
+        ran = desk.run(*line, environment=failing(self.folder(), lines=0))
+        reports("due on a full disk", ran, 3, f"nothing was sent: {desk.journal} cannot be written: No space left")
 
     def test_only_an_act_that_is_held_is_taken_back(self):
         for words, number in ("a second time", "8"), ("one that was entered", "5"):
             with self.subTest(words=words):
-                reports(words, self.dropped.tool("drop", number), 1, f"{number} is no act that is held")
+                reports(words, self.dropped.tool("drop", number), 1, f"{number} is not an act on hold")
 
     def test_what_waits_behind_an_act_that_was_taken_back_is_entered(self):
         desk = self.copy_of(self.dropped)
@@ -132,13 +149,13 @@ class LostHolds(JournalCase):
 
     def test_a_call_overtakes_no_held_act(self):
         ran = self.copy_of(self.desk).act("--at", CALLED, *CALL[1])
-        told = "are held, 5, 6, 7: say gr-desk journal due"
-        reports("a call that overtakes", ran, 1, "nothing was sent: ", told)
+        message = "are on hold, 5, 6, 7: first run gr-desk journal due"
+        reports("a call that overtakes", ran, 1, "nothing was sent: ", message)
 
     def test_an_act_that_overtakes_by_yes_and_is_refused_has_none_dropped(self):
         desk = self.copy_of(self.desk)
         ran = desk.act("--at", T0 + 4 * DAY + 1, "--yes", *SPONSOR, "login=d2")
-        reports("one that overtakes", ran, 1, "refused 17 Already", "and lost if this is accepted")
+        reports("one that overtakes", ran, 1, "refused 17 Already", "and is lost if this act is accepted")
         reports("the list", desk.tool("list"), 0, "login=d3\n      held until ", "login=d4\n      held until ")
         reports("due", desk.tool("due"), 1, "5: ok 5\n6: refused 17 Already\n")
 
@@ -148,11 +165,11 @@ class LostHolds(JournalCase):
     def test_an_act_that_overtakes_by_yes_has_the_earlier_one_dropped_and_a_held_one_may_be_refused(self):
         desk = self.copy_of(self.desk)
         ran = desk.act("--at", T0 + 2 * DAY + 1, "--yes", "vary", "1", "days=1")
-        lost = "5 (sponsor 1 choice=1 login=d3) is held at an earlier date, and lost if this is accepted"
+        lost = "5 (sponsor 1 choice=1 login=d3) is on hold with an earlier date, and is lost if this act is accepted"
         reports("one that overtakes", ran, 0, "ok 5", lost)
         reports("the list", desk.tool("list"), 0, "dropped")
-        told = f"gr-desk journal: Already: {MEANINGS['Already']}\ngr-desk journal: d2 sponsors choice 1\n"
-        reports("one that is refused", desk.tool("due"), 1, "6: refused 17 Already\n", told)
+        message = f"gr-desk journal: Already: {MEANINGS['Already']}\ngr-desk journal: d2 sponsors choice 1\n"
+        reports("one that is refused", desk.tool("due"), 1, "6: refused 17 Already\n", message)
         reports("the next", desk.tool("due"), 0, "7: ok 6")
         reports("the check", desk.tool("check"), 0, "ok")
 
@@ -217,7 +234,7 @@ class HeldVotes(JournalCase):
         words = ["--at", CALLED + 2, "--hold", "1h", "vote", "1", "login=d3"]
         ran = desk.act(*words, given="bbzz\ntokenA03\n")
         wait = "in voting: resolution 1; ballots with a later date wait until"
-        refused = "the desk as it is now would not take this act: refused 21 BadRanks\n"
+        refused = "as the desk is now, it would refuse this act: refused 21 BadRanks\n"
         reports("a vote that waits", ran, 0, "held v3", wait, refused)
         is_silent("a vote that waits", ran, "bbzz", "tokenA03")
         ran = desk.tool("due")
@@ -245,8 +262,8 @@ class HeldCalls(JournalCase):
         desk = self.copy_of(self.desk)
         before = desk.rows(), desk.lines()
         yes = "with --yes 6 is entered all the same, and gr-desk journal drop 6 "
-        told = f"when all of its time for votes is over; {yes}"
-        reports("due", desk.tool("due"), 1, "nothing was sent: the call comes ", told)
+        message = f"when all of its time for votes is over; {yes}"
+        reports("due", desk.tool("due"), 1, "nothing was sent: the call comes ", message)
         self.assertEqual((desk.rows(), desk.lines()), before, "the desk and its journal")
 
     def test_due_enters_it_with_yes(self):
@@ -254,6 +271,15 @@ class HeldCalls(JournalCase):
         ran = desk.tool("due", "--yes")
         reports("due with --yes", ran, 0, f"6: ok 6 places 3 until {ENDED}\n", "warning: the call comes ")
         reports("the check", desk.tool("check"), 0, "ok")
+
+    def test_a_call_that_due_does_not_enter_after_another_act_is_named_with_that(self):
+        desk = self.made(DISCUSSION)
+        for words in [*SPONSOR, "login=d3"], CALL[1]:
+            self.assertEqual(desk.act("--at", CALLED, "--hold", "1h", *words).status, 0)
+        ran = desk.tool("due")
+        message = "nothing more was sent after 6: the call comes "
+        reports("due", ran, 1, "6: ok 6", message, "with --yes 7 is entered all the same")
+        is_silent("due", ran, "nothing was sent")
 
     def test_a_list_takes_no_yes(self):
         reports("list with --yes", self.desk.tool("list", "--yes"), 2, "list has no option --yes")

@@ -16,7 +16,8 @@ from threading import Thread
 from tests.commands.journal_case import JournalCase, entries_in, is_silent
 from tests.support.journaled import DISCUSSION, ENDED, WHOLE, Journaled, environment_of, reports
 from tests.support.program import DAY, LOCAL, PATIENCE, T0, TOP, Ran, free_port, make_desk
-from grdesk.stop import Failed
+from grdesk.error import Failed
+from grdesk.journal.entry import line_of
 
 # The file and the log of such a desk have fewer bytes each.
 MOST_OF_A_DESK = 330_000
@@ -217,8 +218,8 @@ class Sources(JournalCase):
         amend = ["--source", "<h@d1>", *DISCUSSION[4][1]]
         reports("one that waits", desk.act("--at", PROPOSED_AT, "--hold", "24h", *amend), 0, "held 7 ")
         ran = desk.act("--at", PROPOSED_AT, *amend)
-        told = "7 (amend 1 choice=1 minor=0 summary=Crimson) has the same source, and is held"
-        reports("the same again", ran, 1, told)
+        message = "7 (amend 1 choice=1 minor=0 summary=Crimson) has the same source, and is held"
+        reports("the same again", ran, 1, message)
         # A --yes for the source gives up no held act: this one waits too.
         mail = self.mail(b"Message-ID: <87x@d1>\n\nI propose it.\n")
         words = ["--yes", "--source", f"@{mail}", "withdraw", "2", "choice=1"]
@@ -238,7 +239,7 @@ class Sources(JournalCase):
     def test_an_act_without_an_answer_is_looked_for_before_its_source_is_compared(self):
         desk = self.made([*DISCUSSION, VARIED])
         desk.journal.write_bytes(b"".join(desk.lines()[:-1]))
-        found = "6 (vary 1 days=2) no answer is kept: the desk has accepted it"
+        found = "the journal has no answer to 6 (vary 1 days=2): the desk has accepted it"
         same = "6 (vary 1 days=2) has the same source, and was accepted"
         reports("the same again", desk.act("--at", VARIED[0], *VARIED[1]), 1, found, same)
         reports("the check", desk.tool("check"), 0, "ok")
@@ -265,7 +266,7 @@ class OpenActs(JournalCase):
         desk = self.made(DISCUSSION)
         desk.journal.write_bytes(b"".join(desk.lines()[:-1]))
         ran = desk.act("--at", T0 + 3 * DAY, *SPONSOR)
-        open_act = "of 5 (amend 1 choice=1 minor=0 summary=Crimson) no answer is kept"
+        open_act = "the journal has no answer to 5 (amend 1 choice=1 minor=0 summary=Crimson)"
         reports("an act that was done", ran, 0, "ok 6", open_act, "the desk has accepted it")
         reports("the check after it", desk.tool("check"), 0, "ok")
 
@@ -281,7 +282,7 @@ class OpenActs(JournalCase):
         desk = self.made(DISCUSSION)
         desk.journal.write_bytes(b"".join(desk.lines()[:-1]))
         ran = desk.run("act", "--port", free_port(), "--journal", desk.journal, "close", "1")
-        how = "look at the status of its resolution, or at the roll; then say gr-desk journal settle 5 accepted, or"
+        how = "look at the status of its resolution, or at the roll; then run gr-desk journal settle 5 accepted, or"
         reports("one by a port", ran, 3, "the desk may have accepted it", how)
         is_silent("one by a port", ran, "ok 5", "ok 6")
 
@@ -309,7 +310,7 @@ class BadJournals(JournalCase):
             with self.subTest(tail=tail):
                 desk = self.made(DISCUSSION)
                 desk.journal.write_bytes(b"".join(desk.lines()[:-1]) + tail)
-                reports("list", desk.tool("list"), 0, "was written in part", "no answer is kept")
+                reports("list", desk.tool("list"), 0, "was cut off by a stop", "no answer is kept")
                 reports("the next act", desk.act("--at", T0 + 3 * DAY, *SPONSOR), 0, "ok 6")
         reports("the check after such an act", desk.tool("check"), 0, "ok")
 
@@ -318,19 +319,22 @@ class BadJournals(JournalCase):
         known = json.loads(lines[2])
         changed = [{"more": 1}, {"moment": "5"}, {"path": "/frob"}, {"number": "7"}]
         cut = [b"\n", b"[]\n", b"{}\n", b"\xff\n", b'{"form": 2}\n', lines[2][:40] + b"\n", lines[1], lines[0]]
-        for wrong in [*cut, *(json.dumps(known | fields).encode() + b"\n" for fields in changed)]:
+        what = {"resolution": 1, "login": "d1", "ranks": "a", "token": None}
+        replaced = [line_of("replaced", **what, source=source) for source in ({}, {"arrived": None})]
+        made = [*(known | fields for fields in changed), *replaced]
+        for wrong in [*cut, *(json.dumps(line).encode() + b"\n" for line in made)]:
             with self.subTest(line=wrong):
                 desk = self.with_third_line(wrong)
-                told = f"line 3 of {desk.journal} is of no form that this tool knows"
-                self.assertEqual(why_unread(desk.journal), told)
+                message = f"line 3 of {desk.journal} has a form that this tool does not know"
+                self.assertEqual(why_unread(desk.journal), message)
 
     def test_a_tool_fails_where_the_journal_has_a_line_of_an_unknown_form(self):
         third = json.loads(self.made(DISCUSSION).lines()[2]) | {"number": "7"}
         desk = self.with_third_line(json.dumps(third).encode() + b"\n")
-        told = f"line 3 of {desk.journal} is of no form that this tool knows"
+        message = f"line 3 of {desk.journal} has a form that this tool does not know"
         for words, ran in ("act", desk.act("close", "1")), ("list", desk.tool("list")):
             with self.subTest(words=words):
-                reports(words, ran, 3, told)
+                reports(words, ran, 3, message)
 
     def test_a_desk_is_no_journal(self):
         desk = self.made(DISCUSSION)
@@ -361,8 +365,8 @@ class BadJournals(JournalCase):
             check=False,
             preexec_fn=lambda: resource.setrlimit(resource.RLIMIT_FSIZE, (limit, limit)),
         )
-        told = f"nothing was sent: {desk.journal} cannot be written: File too large"
-        reports("a journal that is full", Ran(ran.returncode, ran.stdout, ran.stderr), 3, told)
+        message = f"nothing was sent: {desk.journal} cannot be written: File too large"
+        reports("a journal that is full", Ran(ran.returncode, ran.stdout, ran.stderr), 3, message)
         self.assertEqual(desk.rows(), held, "the rows after it")
-        reports("the next act", desk.act(*vary), 0, "ok 6", "was written in part")
+        reports("the next act", desk.act(*vary), 0, "ok 6", "was cut off by a stop")
         reports("the check after it", desk.tool("check"), 0, "ok")

@@ -23,11 +23,11 @@ def rows_of_refusals():
         ("one with time left", ["--at", early, "call", "1", "days=7"], 1, not_sent, "with --yes", six_days),
         ("one without", ["--at", early, "call", "1", "days=6"], 1, not_sent, "with --yes", "is over"),
         ("a held call", ["--hold", "2h", "call", "1", "days=7"], 1, not_sent, "2 hours", "with --yes"),
-        ("one that waits in vain", ["--at", T0, "--hold", "1h", *SPONSOR], 1, not_sent, "waits in vain"),
+        ("one that waits in vain", ["--at", T0, "--hold", "1h", *SPONSOR], 1, not_sent, "would wait in vain"),
         ("no offset", ["--at", "2026-01-14 21:07", *SPONSOR], 2, "does not say its offset"),
         ("a port too", ["--port", 9, *SPONSOR], 2, "a --desk and a --port are given"),
         ("two ends", ["--hold", "24h", "--hold-until", far, *SPONSOR], 2, "--hold and --hold-until are given"),
-        ("no duration", ["--hold", "1 day", *SPONSOR], 2, "a DURATION is as 24h"),
+        ("no duration", ["--hold", "1 day", *SPONSOR], 2, "a DURATION is written like 24h"),
         ("a year", ["--at", 2026, *SPONSOR], 2, "--at is 1970-01-01T00:33:46Z (2026); a date is written as "),
         ("a day", ["--at", 20260101, *SPONSOR], 2, too_early),
         ("the last second before 2000", ["--at", 946_684_799, *SPONSOR], 2, "--at is 1999-12-31T23:59:59Z"),
@@ -98,8 +98,8 @@ class Refusals(JournalCase):
         with serve(desk.file, 1):
             for words, run in ("act", lambda: desk.act("close", "1")), ("replay", lambda: desk.tool("replay")):
                 with self.subTest(words=words):
-                    told = "nothing was sent: another process holds ", "systemctl stop gr_desk"
-                    reports("a desk that is held", run(), 3, *told)
+                    message = "nothing was sent: another process holds ", "systemctl stop gr_desk"
+                    reports("a desk that is held", run(), 3, *message)
         self.assertEqual(desk.lines(), kept)
 
 

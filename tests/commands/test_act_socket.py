@@ -21,7 +21,8 @@ from tests.support.program import receipt, started, tool
 # The moment of the acts. The vote was called an hour before, since gr-desk votes asks the machine's clock.
 AT = int(time.time())
 BEGIN = AT - 14 * DAY - 3_600
-NO_ANSWER = b"gr-desk act: lost: the answer did not come whole; what was accepted stands, so look at the status\n"
+NO_ANSWER = b"gr-desk act: lost: the answer did not come whole; "
+NO_ANSWER += b"the desk may have accepted the act, so look at the status\n"
 # An account that nobody has, and the group of a socket.
 ACCOUNT, GROUP = 54_321, 54_322
 
@@ -93,8 +94,8 @@ class Tools:
         with self.subTest(words="a vote by the environment"):
             named = {"GR_DESK_SOCKET": self.path}
             ran = by_socket("act", None, "vote", 1, "login=d1", given=b"123\ntokenA01\n", environment=named)
-            told = f"ok {count + 2} receipt {receipt(1, 'd1', 'tokenA01')}"
-            self.assertEqual((ran.status, ran.out.decode().split("\n")[0]), (0, told))
+            message = f"ok {count + 2} receipt {receipt(1, 'd1', 'tokenA01')}"
+            self.assertEqual((ran.status, ran.out.decode().split("\n")[0]), (0, message))
         with self.subTest(words="an import"):
             rows = "".join(f"e{number},A Name,current\n" for number in range(1_900))
             ran = by_socket("act", self.path, "import", given=f"login,name,status\n{rows}".encode())
@@ -168,8 +169,8 @@ class Losses:
 
     def test_a_sheet_after_the_end_of_serve_is_not_given(self):
         ran = by_socket("agenda", self.path)
-        told = f"gr-desk agenda: the socket {self.path} gave no sheet, after 1 connection"
-        self.assertEqual((ran.status, ran.err.decode().rpartition(": ")[0]), (3, told))
+        message = f"gr-desk agenda: the socket {self.path} gave no sheet, after 1 connection"
+        self.assertEqual((ran.status, ran.err.decode().rpartition(": ")[0]), (3, message))
 
 
 class ProxyOfTests(BehindSocket):
@@ -185,7 +186,7 @@ class ProxyOfSystemd(BehindSocket):
         super().setUpClass()
         proxy = systemd_proxy()
         if proxy is None:
-            raise SkipTest("the proxy of systemd is not there")
+            raise SkipTest("systemd-socket-proxyd is not installed")
         cls.begin(proxy)
 
 
@@ -212,8 +213,8 @@ class Sockets(ToolCase):
         journal = self.folder() / "nobody.journal"
         words = ["--journal", journal, "developer", "login=a", "name=A", "status=current"]
         ran = by_socket("act", path, *words)
-        told = f"gr-desk act: nothing was sent: the socket {path}: {why}"
-        self.assertEqual((ran.status, ran.out, ran.err.decode().split("\n")[-2]), (3, b"", told))
+        message = f"gr-desk act: nothing was sent: the socket {path}: {why}"
+        self.assertEqual((ran.status, ran.out, ran.err.decode().split("\n")[-2]), (3, b"", message))
         self.assertEqual(kinds_in(journal), ["act", "found"], "its lines in the journal")
 
     def test_where_nobody_takes_a_connection_nothing_was_sent_and_the_journal_says_so(self):
@@ -256,8 +257,8 @@ class Waits(ToolCase):
     def test_a_wait_for_nobody_ends_in_time(self):
         port = free_port()
         ran = tool("wait", "--port", port, "--seconds", 1)
-        told = f"gr-desk wait: port {port} of {LOCAL} did not answer in time, which is 1 s: Connection refused\n"
-        self.assertEqual(ran, Ran(3, b"", told.encode()))
+        message = f"gr-desk wait: port {port} of {LOCAL} did not answer in time, which is 1 s: Connection refused\n"
+        self.assertEqual(ran, Ran(3, b"", message.encode()))
 
     def test_a_wait_for_a_desk_ends_when_that_answers_by_one_connection(self):
         file, port, quiet = Called.made(self.folder(), begin=BEGIN).file, free_port(), subprocess.DEVNULL

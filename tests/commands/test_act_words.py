@@ -8,16 +8,16 @@ from tests.commands.act_runs import ACT, ADDRESSES, act, wrong
 from tests.support.case import Case
 from tests.support.program import LOCAL, NO_ADDRESS, PATIENCE, Ran, build, compile_tools
 
-NO_RANKS = "standard input has no ranks; its first line has a character for each place"
+NO_RANKS = "standard input has no ranks; its first line needs a character for each place"
 NO_NUMBER = "close needs the number of a resolution after it"
 NAMES = "developer, import, propose, choice, sponsor, unsponsor, withdraw, adopt, amend, vary, call, vote, close, cast"
-READ_BY_ALL = "is no word, since every account can read those of a process: standard input has it"
+READ_BY_ALL = "is secret, and every account can read the words of a process: give it on standard input"
 # What may be a token by mistake is not printed.
-NOT_SHOWN = "a vote has R and login= alone as words, and reads ranks and token from standard input"
+NOT_SHOWN = "a vote takes only R and login= as words, and reads ranks and token from standard input"
 PROPOSAL = ["propose", "author=a", "summary=b", "ratio=1"]
 WRONG = [
-    ([], "no act is given; gr-desk act --help has all of them"),
-    (["frob"], f"there is no act 'frob'; the acts are {NAMES}"),
+    ([], f"there is no command ''; the commands are {NAMES}"),
+    (["frob"], f"there is no command 'frob'; the commands are {NAMES}"),
     (["--frob"], "there is no option '--frob'; gr-desk act --help says more"),
     (["vary", "1", "-7"], "there is no option '-7'; gr-desk act --help says more"),
     (["vary", "1", "--", "-7"], "a word has to be FIELD=VALUE, and not '-7'"),
@@ -31,10 +31,10 @@ WRONG = [
     (["import", "roll.csv"], "a word has to be FIELD=VALUE, and not 'roll.csv'"),
     (["developer", "login=a", "nam=A", "status=current"], "developer has no field 'nam'; it has login, name, status"),
     (["developer", "login=a", "name=A"], "developer needs status="),
-    (["developer", "login=a", "login=a", "name=A", "status=current"], "login stands twice"),
+    (["developer", "login=a", "login=a", "name=A", "status=current"], "login= is given twice"),
     (["call", "1", "days"], "a word has to be FIELD=VALUE, and not 'days'"),
-    (["cast", "1", "place=1", "--port", "1"], "--port stands twice"),
-    (["cast", "1", "--port=1", "place=1"], "--port stands twice"),
+    (["cast", "1", "place=1", "--port", "1"], "--port is given twice"),
+    (["cast", "1", "--port=1", "place=1"], "--port is given twice"),
     (["vote", "1", "login=d1", "ranks=12"], f"ranks= {READ_BY_ALL}"),
     (["vote", "1", "login=d1", "token=tokenA01"], f"token= {READ_BY_ALL}"),
     (["vote", "1", "login=d1", "12", "tokenA01"], NOT_SHOWN),
@@ -43,7 +43,7 @@ WRONG = [
     (["vote", "1", "login=d1"], NO_RANKS),
     ([*PROPOSAL, "text=@no such file"], "'no such file' cannot be read: No such file or directory"),
     ([*PROPOSAL, "text=@/"], "'/' cannot be read: Is a directory"),
-    (["developer", "login=a", "name=\udcff", "status=current"], "a word is no UTF-8"),
+    (["developer", "login=a", "name=\udcff", "status=current"], "a word is not UTF-8"),
 ]
 
 # What a vote finds on standard input, and what is wrong with it.
@@ -52,7 +52,7 @@ WRONG_INPUT = [
     (b"\ntokenA01\n", NO_RANKS),
     (b"12\ntokenA01\nmore\n", "standard input has more than two lines, the ranks and the token"),
     (b"12\ntokenA01\n\n", "standard input has more than two lines, the ranks and the token"),
-    (b"12\n\xff\n", "standard input is no UTF-8"),
+    (b"12\n\xff\n", "standard input is not UTF-8"),
     (b"1" * 5_000, "standard input has more than the ranks and a token"),
 ]
 
@@ -105,7 +105,7 @@ class WrongWords(Case):
     def test_a_text_that_is_no_utf_8_is_not_sent(self):
         latin = self.folder() / "latin"
         latin.write_bytes(b"\xe4")
-        self.is_wrong(lambda port: act(port, *PROPOSAL, f"text=@{latin}"), f"{str(latin)!r} is no UTF-8")
+        self.is_wrong(lambda port: act(port, *PROPOSAL, f"text=@{latin}"), f"{str(latin)!r} is not UTF-8")
 
     def test_a_vote_whose_input_is_wrong_is_not_sent(self):
         for given, why in WRONG_INPUT:
@@ -149,8 +149,8 @@ class WrongAddresses(Case):
                 ("GR_DESK_SOCKET", lambda: act(None, "close", "1", env={"GR_DESK_SOCKET": name})),
             ]:
                 with self.subTest(name=name, words=words):
-                    told = wrong(f"the name of a socket has 1 to 107 bytes, and not {len(name)}")
-                    self.assertEqual(ran(), told)
+                    message = wrong(f"the name of a socket has 1 to 107 bytes, and not {len(name)}")
+                    self.assertEqual(ran(), message)
 
     def test_a_port_and_a_socket_do_not_go_together(self):
         with self.subTest(words="by words"):

@@ -214,8 +214,8 @@ class Moments(Case):
             for number, place in [(number, place) for number in RESOLUTIONS for place in places_of(text, number)]:
                 with self.subTest(desk=name, at=at, resolution=number, place=place):
                     casts += 1
-                    told = answer(self.files[name], at, f"/{number}/cast", f"place={place}")
-                    self.assertEqual(told[:3], "ok ")
+                    message = answer(self.files[name], at, f"/{number}/cast", f"place={place}")
+                    self.assertEqual(message[:3], "ok ")
         self.assertTrue(casts)
 
     def asked(self, text):
@@ -270,8 +270,8 @@ class Moments(Case):
         self.assertIsNotNone(probe, line)
         path, form, early, late = probe
         for when, expected in (moment - 1, early), (moment, late):
-            told = answer(file, when, path, form)
-            self.assertEqual(told[: len(expected)], expected, f"{path} at {when}: {told}")
+            message = answer(file, when, path, form)
+            self.assertEqual(message[: len(expected)], expected, f"{path} at {when}: {message}")
 
     def test_the_ends_of_the_votings_come_next(self):
         voting = [line for line in sections(self.text("second", T0 + 14 * DAY))[1] if " voting " in line]
@@ -290,8 +290,8 @@ class Moments(Case):
         at = T0 + 2 * DAY + HALF
         with serve(self.files["first"], 10, "--at", at) as desk:
             asked = b"\n10 sheets were asked for, each by a connection of `serve`\n"
-            told = Ran(0, self.text("first", at).encode() + asked, b"")
-            self.assertEqual(agenda("--port", desk.port, "--at", at), told)
+            message = Ran(0, self.text("first", at).encode() + asked, b"")
+            self.assertEqual(agenda("--port", desk.port, "--at", at), message)
             self.assertEqual(desk.ended(), Ran(0, b"", b""), "serve")
 
     def test_at_a_moment_at_which_a_desk_takes_no_act_nothing_may_be_done(self):
@@ -303,8 +303,9 @@ class Moments(Case):
 
     def warns(self, ran, seconds):
         """The agenda warns that its moment lies before the desk's clock."""
-        told = f"gr-desk agenda: warning: --at lies {seconds} before the desk's clock: each act at it is {BACK}\n"
-        self.assertEqual((ran.status, ran.err), (0, told.encode()), "what it warns of")
+        message = f"gr-desk agenda: warning: --at is {seconds} before the desk's clock: "
+        message += f"each act with that date is {BACK}\n"
+        self.assertEqual((ran.status, ran.err), (0, message.encode()), "what it warns of")
         self.assertEqual(sections(ran.out.decode())[0], NOTHING, "what may be done")
 
     def test_before_the_desks_clock_it_takes_no_act_and_the_agenda_warns(self):

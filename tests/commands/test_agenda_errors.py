@@ -51,12 +51,12 @@ class Errors(Case):
     def test_a_file_that_is_no_desk_does_not_open(self):
         file = self.folder() / "empty.db"
         file.write_bytes(b"")
-        told = f"fault F6 NotADesk\ngr-desk agenda: {file} does not open\n"
-        self.assertEqual(agenda(file), Ran(3, b"", told.encode()))
+        message = f"fault F6 NotADesk\ngr-desk agenda: {file} does not open\n"
+        self.assertEqual(agenda(file), Ran(3, b"", message.encode()))
 
     def test_what_gives_no_sheet_is_no_desk(self):
         for body, why in [
-            (b"Hello\n", "line 1 of the roll is none of such a sheet, so what answers is no desk"),
+            (b"Hello\n", "line 1 of the roll does not fit such a sheet, so what answers is no desk"),
             (b"Developers: 0\nCurrent: 0", "the roll has no end"),
             (b"\xff\n", "a sheet is no UTF-8, so what answers is no desk"),
         ]:
@@ -66,15 +66,15 @@ class Errors(Case):
 
     def test_what_answers_another_status_is_no_desk(self):
         port = answers_with(b"HTTP/1.1 301 Moved\r\nContent-Length: 0\r\n\r\n")
-        told = wrong(3, f"what listens on port {port} is no desk, and answered status 301")
-        self.assertEqual(agenda("--port", port), told)
+        message = wrong(3, f"what listens on port {port} is no desk, and answered status 301")
+        self.assertEqual(agenda("--port", port), message)
 
     def test_a_fault_of_the_desk_is_shown_with_its_marks_by_their_numbers(self):
         port = answers_with(b"HTTP/1.1 503 Service Unavailable\r\nContent-Length: 15\r\n\r\n\x1b[2J F3 Closed\n")
-        lines = b"<U+001B>[2J F3 Closed\ngr-desk agenda: the desk gave no sheet, and said what stands above\n"
+        lines = b"<U+001B>[2J F3 Closed\ngr-desk agenda: the desk gave no sheet, and said what is above\n"
         self.assertEqual(agenda("--port", port), Ran(3, b"", lines))
 
     def test_help_has_the_form_of_its_words(self):
         ran = agenda("--help")
-        form = b"    gr-desk agenda DESK [--at DATE] [--due] [--journal FILE]\n"
+        form = b"usage: gr-desk agenda DESK [--at DATE] [--due] [--journal FILE]\n"
         self.assertEqual((ran.status, form in ran.out, ran.err), (0, True, b""))

@@ -62,11 +62,11 @@ class HeldActs(JournalCase):
 
     def test_of_a_call_it_says_which_held_acts_come_first_and_the_call_is_not_sent_before(self):
         ran = self.at(CALLED)
-        told = "by 2026-01-22T00:00:00Z (1769040000) (Constitution, A.3.1); first comes what is held: 5, 6, 7\n"
-        reports("a call after them", ran, 4, "    resolution 1 may be called, since ", told)
+        message = "by 2026-01-22T00:00:00Z (1769040000) (Constitution, A.3.1); first comes what is held: 5, 6, 7\n"
+        reports("a call after them", ran, 4, "    resolution 1 may be called, since ", message)
         is_silent("what is held itself", ran, "gr-desk journal due; first")
         ran = self.copy_of(self.desk).act("--at", CALLED, *CALL[1])
-        reports("what comes of it", ran, 1, "nothing was sent: acts with an earlier date are held, 5, 6, 7: ")
+        reports("what comes of it", ran, 1, "nothing was sent: acts with an earlier date are on hold, 5, 6, 7: ")
 
     def test_due_does_what_the_agenda_says(self):
         desk = self.copy_of(self.desk)
@@ -138,11 +138,11 @@ class HeldInVain(JournalCase):
         reports("an act that waits", self.came, 0, "held 5 ")
         back = self.copy_of(self.desk)
         put_back(back, self.early)
-        told = "    the desk lacks acts that the journal has: gr-desk journal replay comes first\n"
+        message = "    the desk lacks acts that the journal has: gr-desk journal replay comes first\n"
         for at, status, first in (T0 + 3 * DAY, 0, ""), (CALLED, 4, "A.3.1); first comes gr-desk journal replay\n"):
             with self.subTest(at=at):
                 ran = agenda(back.file, "--due", "--at", at, "--journal", back.journal)
-                reports("one whose desk went back", ran, status, told, first)
+                reports("one whose desk went back", ran, status, message, first)
                 is_silent("one whose desk went back", ran, "may be entered")
         with self.subTest(words="due"):
             reports("its due", back.tool("due"), 1, "gr-desk journal replay")
@@ -151,11 +151,11 @@ class HeldInVain(JournalCase):
         desk = self.copy_of(self.desk)
         once(desk.file, T0 + 2 * DAY, "/resolutions/1/sponsor", "choice=1&login=d4", "ok 5")
         ran = agenda(desk.file, "--due", "--at", T0 + 3 * DAY, "--journal", desk.journal)
-        told = "      refused 2 ClockBack if it is entered: gr-desk journal drop 5\n"
-        reports("an act that waits in vain", ran, 0, told)
+        message = "      refused 2 ClockBack if it is entered: gr-desk journal drop 5\n"
+        reports("an act that waits in vain", ran, 0, message)
         is_silent("an act that waits in vain", ran, "may be entered")
-        told = "5: refused 2 ClockBack\n", "possible from 2026-01-03T00:00:00Z "
-        reports("its due", desk.tool("due"), 1, *told)
+        message = "5: refused 2 ClockBack\n", "possible from 2026-01-03T00:00:00Z "
+        reports("its due", desk.tool("due"), 1, *message)
 
 
 class HeldVotes(JournalCase):
@@ -184,12 +184,12 @@ class HeldVotes(JournalCase):
             reports("a vote that waits", ran, 0, "held v")
         ran = self.agendas("--at", CALLED + DAY, "--due")
         since = "2026-01-15T01:01:00Z (1768438860)"
-        told = f"    the first of the held votes may be entered, since {since}: gr-desk journal due\n"
-        reports("held votes", ran, 4, told, "Held in the journal:\n    votes\n")
+        message = f"    the first of the held votes may be entered, since {since}: gr-desk journal due\n"
+        reports("held votes", ran, 4, message, "Held in the journal:\n    votes\n")
         is_silent("held votes", ran, "login=", "v1", "bbz", "tokenA01")
 
     def test_before_a_close_come_the_held_votes(self):
         ran = self.agendas("--at", ENDED)
         since = "2026-01-22T00:00:00Z (1769040000)"
-        told = f"resolution 1 may be closed, since {since}; first comes what is held: votes\n"
-        reports("a close after held votes", ran, 0, told)
+        message = f"resolution 1 may be closed, since {since}; first comes what is held: votes\n"
+        reports("a close after held votes", ran, 0, message)

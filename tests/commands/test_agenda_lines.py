@@ -33,11 +33,11 @@ def coming(made):
 class Discussions(Case):
     def test_a_call_may_come_from_the_end_on_and_not_a_second_before(self):
         made = agenda_of(END - 1, status())
-        told = "the discussion of resolution 1 ends, and it may be called"
-        self.assertEqual((made.now, made.next), ([], [(END, told)]))
+        message = "the discussion of resolution 1 ends, and it may be called"
+        self.assertEqual((made.now, made.next), ([], [(END, message)]))
         made = agenda_of(END, status())
-        told = f"resolution 1 may be called, since {ENDED}; it is due by 2026-01-22T00:00:00Z (1769040000) "
-        self.assertEqual((made.now, made.next), ([f"{told}(Constitution, A.3.1)"], []))
+        message = f"resolution 1 may be called, since {ENDED}; it is due by 2026-01-22T00:00:00Z (1769040000) "
+        self.assertEqual((made.now, made.next), ([f"{message}(Constitution, A.3.1)"], []))
 
     def test_a_call_is_due_up_to_seven_days_after_the_end_and_was_due_a_second_later(self):
         for at, is_due in (END + 7 * DAY - 1, True), (END + 7 * DAY, True), (END + 7 * DAY + 1, False):
@@ -47,10 +47,10 @@ class Discussions(Case):
                 self.assertIn(f"; it {verb} due by 2026-01-22T00:00:00Z (1769040000) (Constitution, A.3.1)", line)
 
     def test_a_call_with_no_live_choice_cancels_and_is_not_due(self):
-        told = f"resolution 1 may be called, since {ENDED}; no choice is live, so that cancels it"
+        message = f"resolution 1 may be called, since {ENDED}; no choice is live, so that cancels it"
         for each in choice(1, short=END - DAY), choice(1, introduced=None):
             with self.subTest(choice=each):
-                self.assertEqual(agenda_of(END, status(choices=[each])).now, [told])
+                self.assertEqual(agenda_of(END, status(choices=[each])).now, [message])
 
     def test_a_call_places_the_choices_that_are_live_at_that_second(self):
         short = choice(2, short=END)
@@ -85,8 +85,8 @@ class Choices(Case):
 
     def test_a_short_choice_lapses_after_24_hours_and_not_a_second_before(self):
         made, lines = self.lines(T0 + DAY - 1, short=T0, sponsors=[])
-        told = "choice 1 of resolution 1 lapses, unless it gets 1 more sponsor before"
-        self.assertIn((T0 + DAY, told), made.next)
+        message = "choice 1 of resolution 1 lapses, unless it gets 1 more sponsor before"
+        self.assertIn((T0 + DAY, message), made.next)
         self.assertIn("        short since 2026-01-01T00:00:00Z (1767225600), and lapses 2026-01-02T00:00:00Z "
                       "(1767312000)", lines)
         made, lines = self.lines(T0 + DAY, short=T0, sponsors=[])
@@ -100,14 +100,14 @@ class Choices(Case):
                 self.assertIn(f"        proposed by eve; sponsors: has 1, needs {needs}", lines)
 
     def test_leader_and_committee_need_none_and_a_choice_without_a_proposer_needs_one_too(self):
-        for proposer, told in (("leader", "proposed by the leader; sponsors: has 1, needs none"),
+        for proposer, message in (("leader", "proposed by the leader; sponsors: has 1, needs none"),
                                ("committee", "proposed by the committee; sponsors: has 1, needs none"),
                                ("none", "nobody proposes it; sponsors: has 1, needs 1, and a proposer")):
             with self.subTest(proposer=proposer):
-                self.assertIn(f"        {told}", self.lines(proposer=proposer)[1])
+                self.assertIn(f"        {message}", self.lines(proposer=proposer)[1])
 
     def test_what_a_short_choice_lacks_is_counted(self):
-        for sponsors, proposer, told in (
+        for sponsors, proposer, message in (
             ([], "developer eve", "2 more sponsors"),
             (["bob"], "developer eve", "1 more sponsor"),
             (["bob", "dan"], "developer eve", "1 more sponsor"),
@@ -118,7 +118,7 @@ class Choices(Case):
         ):
             with self.subTest(sponsors=sponsors, proposer=proposer):
                 made, _ = self.lines(developers=16, short=T0, sponsors=sponsors, proposer=proposer)
-                self.assertIn(f"choice 1 of resolution 1 lapses, unless it gets {told} before", coming(made))
+                self.assertIn(f"choice 1 of resolution 1 lapses, unless it gets {message} before", coming(made))
 
     def test_one_that_is_not_introduced_is_told_that_the_discussion_is_over_from_its_end_on(self):
         over = "        not introduced, and the discussion is over"
@@ -132,9 +132,9 @@ class Votings(Case):
         return status("Voting", choices or [choice(1, place=1)], voting=(VOTING[0], end))
 
     def test_a_close_may_come_from_the_end_on_and_not_a_second_before(self):
-        told = "the voting on resolution 1 ends, and it may be closed"
+        message = "the voting on resolution 1 ends, and it may be closed"
         made = agenda_of(VOTING[1] - 1, self.voting())
-        self.assertEqual((made.now, made.next), ([], [(VOTING[1], told)]))
+        self.assertEqual((made.now, made.next), ([], [(VOTING[1], message)]))
         made = agenda_of(VOTING[1], self.voting())
         self.assertEqual((made.now, made.next), (["resolution 1 may be closed, since 2026-01-22T00:00:00Z "
                                                   "(1769040000)"], []))
@@ -142,9 +142,9 @@ class Votings(Case):
     def test_a_vote_that_ends_at_the_last_moment_can_be_closed_and_one_of_a_second_later_never(self):
         made = agenda_of(LATEST, self.voting(LATEST))
         self.assertEqual((len(made.now), made.never), (1, []))
-        told = "resolution 1 can never be closed: its voting ends past the last moment of a desk"
+        message = "resolution 1 can never be closed: its voting ends past the last moment of a desk"
         made = agenda_of(LATEST, self.voting(LATEST + 1))
-        self.assertEqual((made.now, made.next, made.never), ([], [], [told]))
+        self.assertEqual((made.now, made.next, made.never), ([], [], [message]))
 
     def test_the_ballot_has_the_choices_with_places_alone(self):
         text = agenda_of(T0, self.voting(choices=[choice(1), choice(2, summary="R\u202eed", place=1)])).open[0]
@@ -152,8 +152,8 @@ class Votings(Case):
 
     def test_a_closed_vote_waits_for_the_casting_vote_if_places_are_level(self):
         closed = status("Closed", [choice(1, place=1), choice(2, place=2)], voting=VOTING)
-        told = "resolution 1 waits for the casting vote among places 1, 2"
-        self.assertEqual(agenda_of(VOTING[1], closed, casting=[1, 2]).now, [told])
+        message = "resolution 1 waits for the casting vote among places 1, 2"
+        self.assertEqual(agenda_of(VOTING[1], closed, casting=[1, 2]).now, [message])
         made = agenda_of(VOTING[1], closed)
         self.assertEqual((made.now, made.open), ([], []))
 
@@ -184,8 +184,8 @@ class Moments(Case):
 
     def test_the_head_counts_developers_and_resolutions_and_those_that_are_open(self):
         made = agenda_of(END, status(), status("Cancelled", number=2))
-        told = f"Agenda of {ENDED}: 1 current developer, 2 resolutions, 1 of them open"
-        self.assertEqual(made.text(1, 2, 0).split("\n")[0], told)
+        message = f"Agenda of {ENDED}: 1 current developer, 2 resolutions, 1 of them open"
+        self.assertEqual(made.text(1, 2, 0).split("\n")[0], message)
 
     def test_what_comes_next_stands_in_the_order_of_its_moments(self):
         made = agenda_of(T0, status(choices=[choice(1, short=T0 + 5)]), status(number=2, discussion=(T0, T0 + DAY)))
@@ -203,10 +203,10 @@ class Moments(Case):
         self.assertEqual((agenda_of(T0, draft).latest, agenda_of(T0).latest), (0, 0))
 
     def test_a_moment_before_the_clock_is_warned_of_by_seconds_that_are_exact_or_the_least(self):
-        told = "--at lies 1 second before the desk's clock: each act at it is refused 2 ClockBack"
-        self.assertEqual(agenda.clock_warning(T0, True, T0 + 1, True), told)
-        told = "--at lies 90 seconds or more before the desk's clock: each act at it is refused 2 ClockBack"
-        self.assertEqual(agenda.clock_warning(T0, True, T0 + 90, False), told)
+        message = "--at is 1 second before the desk's clock: each act with that date is refused 2 ClockBack"
+        self.assertEqual(agenda.clock_warning(T0, True, T0 + 1, True), message)
+        message = "--at is 90 seconds or more before the desk's clock: each act with that date is refused 2 ClockBack"
+        self.assertEqual(agenda.clock_warning(T0, True, T0 + 90, False), message)
 
 
 class HeldActs(Case):
@@ -248,8 +248,8 @@ class HeldActs(Case):
     def test_one_of_the_desks_clock_can_be_entered_and_one_of_a_second_before_it_is_refused(self):
         entries = self.held(("4", T0 + 9, None))
         self.assertEqual(len(self.agenda(END, entries, clock=T0 + 9).held), 1)
-        told = "  refused 2 ClockBack if it is entered: gr-desk journal drop 4"
-        self.assertEqual(self.agenda(END, entries, clock=T0 + 10).held[1:], [told])
+        message = "  refused 2 ClockBack if it is entered: gr-desk journal drop 4"
+        self.assertEqual(self.agenda(END, entries, clock=T0 + 10).held[1:], [message])
 
     def test_if_the_desk_lacks_an_act_of_the_journal_the_replay_comes_first(self):
         entries = self.held(("4", T0 + 9, None))
@@ -269,8 +269,8 @@ class HeldActs(Case):
     def test_of_votes_that_are_held_nothing_is_told_but_that_there_are_some(self):
         entries = self.held(("v1", T0 + 9, T0 + DAY), ("v2", T0 + 10, T0 + 3 * DAY))
         made = self.agenda(T0 + DAY, entries)
-        told = "the first of the held votes may be entered, since 2026-01-02T00:00:00Z (1767312000)"
-        self.assertEqual((made.held, made.now), (["votes"], [f"{told}: gr-desk journal due"]))
+        message = "the first of the held votes may be entered, since 2026-01-02T00:00:00Z (1767312000)"
+        self.assertEqual((made.held, made.now), (["votes"], [f"{message}: gr-desk journal due"]))
 
 
 CLOSED = """\
@@ -326,20 +326,21 @@ class Runs(Case):
     def test_a_second_before_it_nothing_may_be_done_and_that_is_warned_of(self):
         status_of_run, now, lines = self.run_at(self.CLOCK - 1)
         self.assertEqual((status_of_run, now), (0, "nothing, since each act at this moment is refused 2 ClockBack"))
-        told = "warning: --at lies 1 second before the desk's clock: each act at it is refused 2 ClockBack"
-        self.assertEqual(lines, [f"gr-desk: {told}"])
+        message = "warning: --at is 1 second before the desk's clock: each act with that date is refused 2 ClockBack"
+        self.assertEqual(lines, [f"gr-desk: {message}"])
 
     def test_by_a_port_the_latest_act_that_the_sheets_show_is_the_least_that_the_clock_can_be(self):
         casts = "resolution 1 waits for the casting vote among places 1, 2"
         self.assertEqual(self.run_at(self.CLOCK, clock=None), (4, casts, []))
         lines = self.run_at(self.CLOCK - 1, clock=None)[2]
-        told = "warning: --at lies 1 second or more before the desk's clock: each act at it is refused 2 ClockBack"
-        self.assertEqual(lines, [f"gr-desk: {told}"])
+        message = "warning: --at is 1 second or more before the desk's clock: each act with that date is refused 2 "
+        message += "ClockBack"
+        self.assertEqual(lines, [f"gr-desk: {message}"])
 
     def test_the_head_counts_what_the_sheets_have(self):
         self.run_at(self.CLOCK)
-        told = "Agenda of 2026-01-22T00:00:00Z (1769040000): 1 current developer, 1 resolution, 1 of them open"
-        self.assertEqual(self.head, told)
+        message = "Agenda of 2026-01-22T00:00:00Z (1769040000): 1 current developer, 1 resolution, 1 of them open"
+        self.assertEqual(self.head, message)
 
     def test_a_vote_that_has_a_winner_waits_for_nothing(self):
         for last in "Winner: 1 by casting vote", "Winner: 1":

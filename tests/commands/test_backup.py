@@ -111,7 +111,7 @@ class Places(Case):
                     taken = Path(f"{copy}{end}")
                     make(taken)
                     with unchanged(name, copy.parent):
-                        self.assertEqual(tool(name, self.good, copy), fails(name, 1, f"{taken} is there"))
+                        self.assertEqual(tool(name, self.good, copy), fails(name, 1, f"{taken} already exists"))
 
     def test_what_has_the_name_of_a_desk_its_log_or_its_journal_is_left_as_it_is(self):
         for end in "", "-wal", "-journal":
@@ -124,7 +124,7 @@ class Places(Case):
     def test_a_desk_is_not_copied_to_itself(self):
         for name in BOTH:
             with self.subTest(name=name), unchanged(name, self.good.parent):
-                self.assertEqual(tool(name, self.good, self.good), fails(name, 1, f"{self.good} is there"))
+                self.assertEqual(tool(name, self.good, self.good), fails(name, 1, f"{self.good} already exists"))
 
     def test_a_folder_that_is_not_there_is_reported(self):
         place = self.folder()

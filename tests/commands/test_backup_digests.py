@@ -281,7 +281,7 @@ class Keep(Case):
         self.assertEqual((ran.status, ran.out), (0, b"ok\n"))
         [new] = kept_in(place) - set(made)
         gone = [*made, new][-keep - 1 : -keep]
-        lines = [said(f"removed {place}/{name}, as {keep} newer copies are there", "backup") for name in gone]
+        lines = [said(f"removed {place}/{name}: {keep} newer copies are kept", "backup") for name in gone]
         self.assertEqual(ran.err, b"".join(lines))
         # Another copy has another name.
         time.sleep(1.1)

@@ -17,7 +17,7 @@ from tests.support.mailed import votes
 from tests.support.program import DAY, T0, TOP, Ran, run, tool
 
 sys.path.insert(0, str(TOP / "tools"))
-from grdesk.desk.retention import DatedCopy, name_before_votes, surplus  # noqa: E402
+from grdesk.desk.retention import DatedCopy, base_of, name_before_votes, surplus  # noqa: E402
 
 
 def stays(moments, now):
@@ -44,6 +44,11 @@ class Retention(Case):
     """Which copies stay, by their moments."""
 
     end = T0 + 400 * DAY + 5 * HOUR
+
+    def test_the_names_of_copies_begin_with_that_of_the_desk_without_its_folder_or_slashes(self):
+        for desk in "desk.db", "./desk.db", "/srv/gr/desk.db", "/srv/gr/desk.db/", "desk.db//":
+            with self.subTest(desk=desk):
+                self.assertEqual(base_of(desk), "desk.db")
 
     def test_of_copies_of_400_days_those_stay_that_the_help_names(self):
         moments = [*range(T0, self.end, QUARTER)]
@@ -133,7 +138,7 @@ class Changes(Case):
 
     def test_two_ways_to_keep_are_refused(self):
         ran = self.timed.tool(AT, "backup", "--thin", "--keep", 3, self.timed.file, self.timed.copies)
-        text = b"gr-desk backup: --keep and --thin are given: one of them says which copies stay\n"
+        text = b"gr-desk backup: --keep and --thin are given: give only one of them\n"
         self.assertEqual(ran, Ran(2, b"", text))
 
 
@@ -214,7 +219,7 @@ class BeforeVotes(Case):
         self.assertTrue(began <= made <= ended, f"{new} was made between {began} and {ended}")
         self.assertEqual(run("status", work / new, 1).status, 0)
         for name in old[:2]:
-            self.assertIn(f"removed {work}/{name}, as 3 newer copies of this kind are there", ran.err.decode())
+            self.assertIn(f"removed {work}/{name}: 3 newer copies of this kind are kept", ran.err.decode())
 
     def test_one_with_a_later_name_does_not_take_the_place_of_the_new_one(self):
         """As after a clock that was wrong."""

@@ -7,7 +7,7 @@ from unittest import mock
 from tests.support.ballot_cases import EMPTY, FILLED, LONG, form
 from tests.support.case import Case
 from tests.support.in_process import loaded, said, stopped
-from grdesk.stop import Refused, Wrong
+from grdesk.error import Refused, Wrong
 
 STATUS = f"""\
 Resolution 1
@@ -46,6 +46,11 @@ ballot = loaded("ballot")
 
 
 class Desk:
+    """A desk on which resolution 1 alone was called."""
+
+    def rows(self):
+        return {"resolution": {(1,): {"called": 1_768_435_200}, (2,): {"called": 0}}}
+
     def sheet(self, kind, *_):
         return {"status": STATUS, "roll": ROLL}[kind]
 
@@ -63,7 +68,7 @@ class Commands(Case):
         with mock.patch.dict(os.environ), patches, said() as text:
             for name in "GR_DESK_PORT", "GR_DESK_SOCKET":
                 os.environ.pop(name, None)
-            status = ballot.run(ballot.reader().read([str(word) for word in words]))
+            status = ballot.run(ballot.parser().read([str(word) for word in words]))
             notes = [line.partition("gr-desk: ")[2] for line in text.lines()]
         return status, "".join(printed).split("\n")[:-1], notes
 
@@ -127,15 +132,15 @@ class Written(Commands):
 
 class Words(Commands):
     def test_words_that_are_wrong_are_named(self):
-        for words, told in (
-            (["vote", "desk.db", "1"], "there is no command 'vote'; they are form, call, read"),
+        for words, message in (
+            (["vote", "desk.db", "1"], "there is no command 'vote'; the commands are form, call, read"),
             (["form", "desk.db", "1", "x"], "form has a word too many: 'x'; gr-desk ballot --help says more"),
             (["call", "desk.db", "1", "x"], "call has a word too many: 'x'; gr-desk ballot --help says more"),
             (["read", "desk.db", "1"], "read needs the name of a FILE after R; gr-desk ballot --help says more"),
             (["form", "desk.db", "01"], "R is the number of a resolution, and not '01'"),
         ):
             with self.subTest(words=words):
-                self.assertEqual(stopped(Wrong, self.run_of, *words), told)
+                self.assertEqual(stopped(Wrong, self.run_of, *words), message)
 
     def test_a_file_with_no_mail_is_refused(self):
         box = self.folder() / "box"

@@ -142,8 +142,8 @@ class BallotForms(Case):
         (place / "empty").mkdir()
         mailbox.Maildir(place / "no_mail")
         lines = [
-            ([], 2, "there is no command ''; they are form, call, read"),
-            (["vote", file, 1], 2, "there is no command 'vote'; they are form, call, read"),
+            ([], 2, "there is no command ''; the commands are form, call, read"),
+            (["vote", file, 1], 2, "there is no command 'vote'; the commands are form, call, read"),
             (["form", file], 2, f"the number of a resolution is missing{MORE}"),
             (["form", file, 1, "x"], 2, f"form has a word too many: 'x'{MORE}"),
             (["read", file, 1], 2, f"read needs the name of a FILE after R{MORE}"),

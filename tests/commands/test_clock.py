@@ -56,7 +56,7 @@ class Clock(Case):
     def test_a_date_before_the_clock_of_the_desk_is_warned_of(self):
         file = new_desk(self.folder() / "desk.db")
         line = b"--at     2025-12-31T23:59:59Z (1767225599)\n"
-        text = "--at lies 1 second before the desk's clock: each act at it is refused 2 ClockBack"
+        text = "--at is 1 second before the desk's clock: each act with that date is refused 2 ClockBack"
         with unchanged("the clock", file.parent):
             self.assertEqual(self.clock(file, T0 - 1)[0], Ran(1, OF_DESK + line, warning(text)))
 
@@ -94,7 +94,7 @@ class Clock(Case):
         with closing(sqlite3.connect(file)) as conn:
             conn.execute("DELETE FROM desk")
             conn.commit()
-        text = f"{file} cannot be read as a desk: its table desk has no row, or another than a desk has"
+        text = f"{file} cannot be read as a desk: its table desk has no row, or one that no desk has"
         self.assertEqual(tool("clock", file), fails("clock", 3, text))
 
     def test_a_clock_that_is_no_moment_is_reported(self):

@@ -121,7 +121,8 @@ class Refusals(Sending):
         ran = self.timed.tool(SENT, *self.words, **self.ways, PATH=str(place), TMPDIR=str(small))
         said = ran.err.decode().splitlines()[-1]
         self.assertEqual(ran.status, 3)
-        self.assertRegex(said, f"^gr-desk copy_out: nothing was sent: age .*, and the disk of {small}/gr-desk-[0-9]+ is full$")
+        full = f"the disk of {small}/gr-desk-[0-9]+ is full"
+        self.assertRegex(said, f"^gr-desk copy_out: nothing was sent: age .*, and {full}$")
         self.has_sent()
 
     def test_nothing_is_sent_by_a_program_that_takes_nothing(self):
@@ -149,7 +150,7 @@ class ByAge(Sending):
 
     def test_what_age_encrypts_is_the_newest_copy(self):
         if not shutil.which("age") or not shutil.which("age-keygen"):
-            self.skipTest("age is not there")
+            self.skipTest("age is not installed")
         place, file, clear = few_programs(self.timed.work), self.timed.work / "age.key", self.timed.work / "clear.tar"
         runs_well("age-keygen", "-o", file)
         (place / "age").symlink_to(shutil.which("age"))
@@ -179,7 +180,7 @@ class Gpg:
         subprocess.run(["gpgconf", "--kill", "all"], env=self.environment, capture_output=True, check=False)
 
 
-@unittest.skipUnless(shutil.which("gpg"), "gpg is not there")
+@unittest.skipUnless(shutil.which("gpg"), "gpg is not installed")
 class ByGpg(Sending):
     @classmethod
     def setUpClass(cls):

@@ -1,38 +1,23 @@
 """How the tools read their words and options, and how they end where these are wrong, where their output cannot be
 written, and where an error occurs that no tool expects. Every text is compared whole, except those of help."""
 import os
+import re
 import subprocess
 
 from tests.support.case import Case
+from tests.support.in_process import loaded
 from tests.support.one_developer import OK, ROLL, fails, new_desk, unchanged
 from tests.support.program import T0, TOP, Ran, run, tool
 
-# The words that each of them takes.
-WORDS = {
-    "backup": "[--verbose] DESK TO",
-    "restore": "COPY DESK",
-    "clock": "DESK [--at DATE] [--journal FILE]",
-    "install": "PREFIX",
-    "act": "[--port P | --socket PATH] [--explain] [MORE] ACT [R] FIELD=VALUE ..",
-    "journal": "replay [JOURNAL] DESK [--from COPY] [--dry-run] [--without N]",
-    "agenda": "[--port P | --socket PATH] [--at DATE] [--due]",
-    "page": "[--journal FILE] [--at DATE] DESK R > page.html",
-    "ballot": "read DESK R FILE ..",
-    "votes": "[--received-by HOST] [--outbox OUTBOX] [--domain DOMAIN] [--journal FILE] DESK R FOLDER",
-    "voters": "DESK R > voters.txt",
-    "roll_diff": "[--port P | --socket PATH] ROLL.csv > retired.csv",
-    "wait": "[--port P | --socket PATH] [--seconds N]",
-    "health": "[--port P | --socket PATH] [--copies FOLDER] DESK",
-    "copy_out": "DESK FOLDER",
-    "alarm": "UNIT",
-    "manual": "FOLDER",
-    "package": "FOLDER",
-}
+COMMANDS = (
+    "act agenda alarm backup ballot clock copy_out health install journal manual package page restore roll_diff voters "
+    "votes wait"
+).split()
 EXAMPLES = "check_receipt", "recount", "whole_vote"
 
 MISSING = "the following arguments are required: "
 NO_JOURNAL = "no journal is given: by --journal FILE, or by the environment variable GR_DESK_JOURNAL"
-NO_COMMAND = "they are list, replay, check, settle, due, drop"
+NO_COMMAND = "the commands are list, replay, check, settle, due, drop"
 # Words that a tool does not take, and what it reports. After that stands where its help is.
 UNKNOWN_WORDS = {
     "backup": {
@@ -52,22 +37,25 @@ UNKNOWN_WORDS = {
         "a --at 5 6": "there is a word too many: '6'",
         "a -5": "there is no option '-5'",
     },
-    "install": {"": "the words are PREFIX", "a b": "the words are PREFIX"},
+    "install": {"": f"{MISSING}PREFIX", "a b": "there is a word too many: 'b'"},
     "manual": {"": f"{MISSING}FOLDER", "a b": "there is a word too many: 'b'"},
     "wait": {"a": "there is a word too many: 'a'", "--seconds": "argument --seconds: expected one argument"},
     "health": {"--port 5": f"{MISSING}DESK", "a --copies": "argument --copies: expected one argument"},
     "copy_out": {"a": f"{MISSING}FOLDER", "a b c": "there is a word too many: 'c'"},
     "alarm": {"": f"{MISSING}UNIT", "a b": "there is a word too many: 'b'"},
-    "journal": {
-        "list 1 2": "the words of list are [R]",
-        "replay": "the words of replay are [JOURNAL] DESK",
-        "check a b c": "the words of check are [JOURNAL] DESK",
-        "due 7": "the words of due are none",
-        "drop": "the words of drop are N",
-        "list --frob": "there is no option '--frob'",
+    "journal": {"list --frob": "there is no option '--frob'"},
+    "journal list": {"1 2": "there is a word too many: '2'"},
+    "journal replay": {"": f"{MISSING}DESK", "a --as 3": "replay has no option --as"},
+    "journal check": {"a b c": "there is a word too many: 'c'"},
+    "journal due": {
+        "7": "there is a word too many: '7'",
+        "--without 3": "due has no option --without",
+        "--from b": "due has no option --from",
     },
+    "journal drop": {"": f"{MISSING}N"},
+    "journal settle": {"3": f"{MISSING}accepted|refused"},
 }
-# Options that stand twice.
+# Options that are given twice.
 TWICE = [
     ("backup", "a b --verbose --verbose", "--verbose"),
     ("backup", "--keep 2 a b --keep=3", "--keep"),
@@ -82,10 +70,7 @@ WRONG_WORDS = {
     "journal": {
         "": f"there is no command ''; {NO_COMMAND}",
         "frob": f"there is no command 'frob'; {NO_COMMAND}",
-        "due --without 3": "due has no option --without",
-        "due --from b": "due has no option --from",
-        "replay a --as 3": "replay has no option --as",
-        "drop x": "the number of an act is as 7, or of a vote as v7, and not 'x'",
+        "drop x": "the number of an act is like 7, or v7 for a vote, and not 'x'",
         "replay a b --journal c": "a JOURNAL and a --journal are given: one of them says which journal",
         "check a": NO_JOURNAL,
         "list": NO_JOURNAL,
@@ -108,7 +93,8 @@ class Words(Case):
         with unchanged("wrong words", place):
             for name, line, why in rows:
                 with self.subTest(line=f"{name} {line}"):
-                    self.assertEqual(tool(name, *line.split(), cwd=place), fails(name, 2, why))
+                    ran = tool(*name.split(), *line.split(), cwd=place)
+                    self.assertEqual(ran, fails(name.split()[0], 2, why))
 
     def test_words_that_a_tool_does_not_take_are_reported_with_status_2(self):
         self.check_lines(
@@ -117,8 +103,8 @@ class Words(Case):
             for line, why in lines.items()
         )
 
-    def test_an_option_that_stands_twice_is_reported_with_status_2(self):
-        self.check_lines((name, line, f"{option} stands twice") for name, line, option in TWICE)
+    def test_an_option_that_is_given_twice_is_reported_with_status_2(self):
+        self.check_lines((name, line, f"{option} is given twice") for name, line, option in TWICE)
 
     def test_words_that_contradict_each_other_are_reported_with_status_2(self):
         self.check_lines((name, line, why) for name, lines in WRONG_WORDS.items() for line, why in lines.items())
@@ -134,22 +120,73 @@ class Words(Case):
             for number in WRONG_NUMBERS
         )
 
-    def test_each_tool_prints_its_help_and_leaves_nothing(self):
-        place = self.folder()
-        with unchanged("help", place):
-            for name, words in WORDS.items():
-                for line in [["--help"], ["-h"], *([["a", "--help"]] if name != "install" else [])]:
-                    with self.subTest(name=name, line=line):
-                        ran = tool(name, *line, cwd=place)
-                        self.assertEqual((ran.status, ran.err), (0, b""))
-                        self.assertIn(f" gr-desk {name} {words}\n", ran.out.decode())
-
     def test_each_example_prints_its_help(self):
         for name in EXAMPLES:
             with self.subTest(name=name):
                 ran = subprocess.run([TOP / "examples" / name, "--help"], capture_output=True, check=False)
                 self.assertEqual((ran.returncode, ran.stderr), (0, b""))
                 self.assertIn(name.encode(), ran.stdout)
+
+
+class Helps(Case):
+    """The help of each command, and of each subcommand."""
+
+    def parsers(self):
+        for name in COMMANDS:
+            parser = loaded(name).parser()
+            for each in (parser, *parser.subcommands.values()):
+                yield each.prog.split()[1:], each
+
+    def test_it_is_printed_and_leaves_nothing(self):
+        place = self.folder()
+        with unchanged("help", place):
+            for name in COMMANDS:
+                with self.subTest(name=name):
+                    expected = Ran(0, loaded(name).parser().format_help().encode(), b"")
+                    self.assertEqual(tool(name, "--help", cwd=place), expected)
+
+    def test_that_of_a_subcommand_is_printed_wherever_the_option_is(self):
+        expected = Ran(0, loaded("act").parser().subcommands["vote"].format_help().encode(), b"")
+        for line in "act vote --help", "act --help vote", "act --desk desk.db vote -h", "act vote 1 --help login=d1":
+            with self.subTest(line=line):
+                self.assertEqual(tool(*line.split()), expected)
+
+    def test_it_is_printed_beside_words_that_are_wrong(self):
+        for line in "act a --help", "journal a -h", "ballot --help --frob":
+            with self.subTest(line=line):
+                expected = loaded(line.split()[0]).parser().format_help().encode()
+                self.assertEqual(tool(*line.split()), Ran(0, expected, b""))
+
+    def test_it_fits_a_screen(self):
+        for words, parser in self.parsers():
+            lines = parser.format_help().splitlines()
+            with self.subTest(words=words):
+                self.assertLessEqual(len(lines), 40)
+                self.assertEqual([line for line in lines if len(line) > 80], [])
+
+    def test_it_has_the_usage_the_purpose_an_example_and_each_exit_status(self):
+        for words, parser in self.parsers():
+            text = parser.format_help()
+            with self.subTest(words=words):
+                self.assertEqual(text.splitlines()[0], f"usage: gr-desk {' '.join(words)} {parser.usages[0]}".rstrip())
+                self.assertIn(f"\n\n{parser.purpose[0].upper()}{parser.purpose[1:]}.\n", text)
+                self.assertIn(f"\nExample: gr-desk {' '.join(words)}", text)
+                for number, meaning in parser.statuses:
+                    self.assertRegex(text, rf"\n(exit status: | {{13}}) {number}  {re.escape(meaning)}\n")
+
+    def test_it_has_a_line_of_help_for_each_argument_and_option(self):
+        for words, parser in self.parsers():
+            text = parser.format_help()
+            for each in parser.own_actions():
+                name = each.option_strings[-1] if each.option_strings else each.metavar or each.dest
+                with self.subTest(words=words, name=name):
+                    self.assertTrue(each.help)
+                    first = re.escape(each.help.split()[0])
+                    self.assertRegex(text, rf"\n  (-h, )?{re.escape(name)}( [A-Z]+)?(\n +| +){first}")
+
+    def test_that_of_a_subcommand_has_the_options_of_its_command(self):
+        self.assertIn("\n  --journal FILE ", loaded("journal").parser().subcommands["due"].format_help())
+        self.assertIn("\n  --desk FILE ", loaded("act").parser().subcommands["vote"].format_help())
 
 
 class Options(Case):

@@ -150,7 +150,7 @@ class Health(Case):
         self.assertEqual(ran, Ran(1, f"{shown} has no copy of the desk\n".encode(), b""))
 
     def test_a_clock_that_was_set_back_is_reported(self):
-        before = "the machine's clock is before the desk's, which refuses each act until then"
+        before = "the machine's clock is behind the desk's, which refuses each act until then"
         with self.served(2) as desk:
             self.act(desk, "h1")
             self.reports(desk.port, AT - 60, before)
@@ -164,7 +164,7 @@ class Health(Case):
 
     def test_a_desk_that_failed_is_reported_with_the_status_of_its_response(self):
         with answering(FAILED) as port:
-            fault = f"port {port} of {LOCAL} answered GET /roll by status 503, and not by the roll"
+            fault = f"port {port} of {LOCAL} answered GET /roll with status 503, and not with the roll"
             self.reports(port, AT, fault)
 
     def test_an_answer_without_an_end_is_reported_and_so_is_the_rest(self):

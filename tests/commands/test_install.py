@@ -15,7 +15,6 @@ from pathlib import Path
 from tests.commands.installed_names import (
     COMMAND,
     COMMAND_NAMES,
-    COMMANDS,
     COMPLETION,
     NEVER,
     PAGES,
@@ -24,7 +23,6 @@ from tests.commands.installed_names import (
     SAME,
     SAYS,
     STARTS_THE_PROXY,
-    SUBCOMMANDS,
     UNITS,
 )
 from tests.support.case import Case
@@ -35,20 +33,6 @@ BEGAN = time.time()
 NO_UNIT = 'PREFIX has a character that no unit can name: ", \\, $ or a line end'
 NO_WORDS = b"gr-desk: the words are TOOL or SUBCOMMAND, and its own; gr-desk --help lists the tools\n"
 NO_OPTION = b"gr-desk clock: there is no option '--frob'; gr-desk clock --help says more\n"
-# The words before the cursor, and what bash offers in the place of the last one.
-COMPLETED = [
-    (["jo"], ["journal"]),
-    (["journal", "re"], ["replay"]),
-    (["journal", "--d"], ["--dry-run"]),
-    (["ballot", "c"], ["call"]),
-    (["serve", "desk.db", "--po"], ["--port"]),
-    (["act", "un"], ["unsponsor"]),
-    (["act", "--desk", "desk.db", "cast", "1", "pl"], ["place="]),
-    (["act", "choice", "1", "lo"], []),
-    (["backup", "desk"], []),
-]
-FIELDS = ["author=", "summary=", "text=", "ratio="]
-
 
 def install(*words, **options):
     return tool("install", *words, **options)
@@ -102,7 +86,7 @@ class Words(Installed):
     def test_wrong_words_are_reported_and_install_nothing(self):
         work = self.folder()
         for words, expected in [
-            (["--frob"], fails("install", 2, "PREFIX is no name of a folder: --frob")),
+            (["--frob"], fails("install", 2, "there is no option '--frob'; gr-desk install --help says more")),
             ([TOP], fails("install", 2, "PREFIX is the folder of the sources")),
             *(([work / name], fails("install", 2, NO_UNIT)) for name in ('a "b"', "a\\b", "$HOME", "a\nb")),
         ]:
@@ -233,7 +217,8 @@ class Command(Installed):
         for command in self.commands():
             with self.subTest(command=command):
                 ran = runs([command, "--help"])
-                listed = re.findall(r"^    ([a-z_]+)  ", ran.out.decode().partition("The tools:")[2], re.M)
+                commands = ran.out.decode().partition("\ncommands:\n")[2].partition("\n\n")[0]
+                listed = re.findall(r"^  ([a-z_]+)  ", commands, re.M)
                 self.assertEqual((ran.status, listed), (0, COMMAND_NAMES))
 
     def test_it_ends_as_the_program_does_where_nobody_reads_its_output(self):
@@ -249,90 +234,13 @@ class Command(Installed):
         self.assertIn(b"the program is not there", ran.err)
 
 
-def plain(text):
-    """The text of a man page's source, with one space between two words."""
-    text = re.sub(r"^\.(EX|EE|PP|br|TH .*)$", "", text, flags=re.M)
-    text = re.sub(r"^\.(SH|SS) ", "", text, flags=re.M)
-    for mark, each in ("\\&", ""), ("\\-", "-"), ("\\(ga", "`"), ("\\(aq", "'"), ("\\(ha", "^"), ("\\(ti", "~"):
-        text = text.replace(mark, each)
-    return " ".join(text.replace("\\e", "\\").split())
-
-
-def help_of(name, *words):
-    """The help text of a file, of which the command runs the commands."""
-    is_command = name.startswith("tools/grdesk/")
-    line = [TOP / "tools" / "gr-desk", Path(name).stem] if is_command else [TOP / name]
-    ran = runs([*line, *words, "--help"])
-    expect(f"{name} {words} --help", (ran.status, ran.err), (0, b""))
-    return ran.out.decode().strip()
-
-
-class Manual(Installed):
-    def source(self, name):
-        return (self.place / PAGES[name]).read_text()
-
-    def check_has(self, name, *parts):
-        """The page has these parts of a help text, one after the other."""
-        self.assertIn(" ".join(" ".join(part.split()) for part in parts), plain(self.source(name)))
-
-    def test_the_page_of_the_program_has_its_help(self):
-        title, _, text = help_of("gr_desk").partition("Usage: ")
-        self.check_has("gr_desk", "gr_desk -", title, "SYNOPSIS")
-        self.check_has("gr_desk", text)
-
-    def test_the_page_of_the_program_has_the_help_of_each_subcommand_under_its_heading(self):
-        self.assertEqual(re.findall(r"^\.SS (.*)$", self.source("gr_desk"), re.M), SUBCOMMANDS)
-        for name in SUBCOMMANDS:
-            with self.subTest(name=name):
-                self.check_has("gr_desk", name, help_of("gr_desk", name))
-
-    def test_each_other_page_has_its_help_text_from_the_first_word_to_the_last_one(self):
-        for name, path in PAGES.items():
-            if name != "gr_desk":
-                with self.subTest(name=name):
-                    purpose, synopsis, text = help_of(name).split("\n\n", 2)
-                    head = f"{Path(path).stem} -", purpose.rstrip(".:"), "SYNOPSIS"
-                    self.check_has(name, *head, synopsis, "DESCRIPTION", text, "SEE ALSO")
-
-    def test_man_shows_each_page_without_a_warning(self):
-        if not shutil.which("man"):
-            self.skipTest("no `man` is there to show them")
-        environment = os.environ | {"LC_ALL": "C.UTF-8", "MANWIDTH": "100"}
-        for path in PAGES.values():
+class Pages(Installed):
+    def test_they_and_the_completion_are_those_that_gr_desk_manual_writes(self):
+        place = self.folder()
+        self.assertEqual(tool("manual", place), Ran(0, b"", b""))
+        for path in *PAGES.values(), COMPLETION:
             with self.subTest(path=path):
-                ran = runs(["man", "--warnings", "-l", self.place / path], env=environment)
-                self.assertEqual((ran.status, ran.err), (0, b""))
-
-
-@unittest.skipUnless(shutil.which("bash"), "no bash is there, whose words are completed")
-class Completion(Installed):
-    def completed(self, *words):
-        """What bash offers in the place of the last word."""
-        call = '. "$1"; shift; COMP_WORDS=("$@"); COMP_CWORD=$(($# - 1)); _gr_desk; printf "%s\\n" "${COMPREPLY[@]}"'
-        ran = runs(["bash", "-c", call, "bash", self.place / COMPLETION, "gr-desk", *words])
-        self.assertEqual((ran.status, ran.err), (0, b""), words)
-        return ran.out.decode().split()
-
-    def test_each_tool_and_each_subcommand_is_offered(self):
-        self.assertEqual(self.completed(""), sorted([*COMMAND_NAMES, *SUBCOMMANDS, "help"]))
-
-    def test_words_options_and_fields_are_completed(self):
-        for words, expected in COMPLETED:
-            with self.subTest(words=words):
-                self.assertEqual(self.completed(*words), expected)
-
-    def test_the_fields_of_an_act_are_offered(self):
-        self.assertEqual([each for each in self.completed("act", "propose", "") if each in FIELDS], FIELDS)
-
-    def test_each_option_that_is_offered_is_one_that_the_tool_takes(self):
-        count = 0
-        for name in COMMANDS:
-            command = Path(name).stem
-            for option in self.completed(command, "--"):
-                count += 1
-                with self.subTest(name=name, option=option):
-                    self.assertNotIn(b"no option", runs([self.place / COMMAND, command, option]).err)
-        self.assertGreater(count, 0)
+                self.assertEqual((self.place / path).read_bytes(), (place / path).read_bytes())
 
 
 def settings(text):
@@ -392,7 +300,7 @@ class Units(Installed):
 
     def test_the_units_pass_systemd_analyze(self):
         if not shutil.which("systemd-analyze"):
-            self.skipTest("no systemd-analyze is there")
+            self.skipTest("systemd-analyze is not installed")
         for name, place in self.places.items():
             with self.subTest(folder=name):
                 ran = runs(["systemd-analyze", "verify", *(place / each for each in UNITS)])

@@ -143,9 +143,9 @@ class SummedDesks(JournalCase):
 
 def warned_of(copy):
     """What is said of a copy that `cp` has made."""
-    told = f"warning: {copy}.sha256 is not there, so nothing tells whether {copy} is as it was copied"
+    message = f"warning: {copy}.sha256 is not there, so nothing tells whether {copy} is as it was copied"
     no_log = f"warning: {copy} has no log beside it; if it was copied without its log, acts are missing"
-    lines = [told] if os.path.exists(f"{copy}-wal") else [told, no_log]
+    lines = [message] if os.path.exists(f"{copy}-wal") else [message, no_log]
     return "".join(f"gr-desk journal: {line}\n" for line in lines).encode()
 
 
@@ -154,16 +154,16 @@ class ShorterJournals(JournalCase):
         for vote, acts, kept in SHORTER:
             with self.subTest(vote=vote, kept=kept), self.shorter_journal(vote, acts, kept) as (desk, lacks):
                 ran = desk.tool("check")
-                reports("a check by a shorter journal", ran, 1, f"{lacks}, so that a replay does not mend it\n")
+                reports("a check by a shorter journal", ran, 1, f"{lacks}, so a replay does not mend it\n")
                 is_silent("a check by a shorter journal", ran, "a copy and a replay")
 
     def test_a_check_from_a_copy_with_all_acts_says_that_those_were_not_checked(self):
         for vote, acts, kept in SHORTER:
             with self.subTest(vote=vote, kept=kept), self.shorter_journal(vote, acts, kept) as (desk, lacks):
                 whole = copy_desk(desk.file, self.folder() / "whole.db")
-                told = f"gr-desk journal: {lacks}; these were not checked, since {whole} has them already\n"
+                message = f"gr-desk journal: {lacks}; these were not checked, since {whole} has them already\n"
                 ran = desk.tool("check", "--from", whole)
-                self.assertEqual(ran, Ran(1, b"", warned_of(whole) + told.encode()))
+                self.assertEqual(ran, Ran(1, b"", warned_of(whole) + message.encode()))
 
 
 class ChecksFromCopy(JournalCase):
@@ -198,9 +198,9 @@ class ChecksFromCopy(JournalCase):
         put_back(desk, self.early)
         ran = desk.tool("check", "--from", self.late)
         lost = f"it is a copy of another desk, or {desk.file} has lost acts\n"
-        told = f"{self.late} has more acts than {desk.file}: {lost}"
+        message = f"{self.late} has more acts than {desk.file}: {lost}"
         row = "developer login e6: the row is missing\n"
-        reports("a check from one that is later than the desk", ran, 1, row, told)
+        reports("a check from one that is later than the desk", ran, 1, row, message)
         ran = desk.tool("check", "--from", self.early)
         is_silent("a check from an early copy", ran, "has more acts than")
 
@@ -220,8 +220,8 @@ class ChecksFromCopy(JournalCase):
         desk = self.with_an_act_after_them()
         desk.journal.write_bytes(b"".join(desk.lines()[:-3]))
         ran = desk.tool("check", "--from", self.early)
-        told = "with the numbers 6 to 8: the desk has 8 acts, and the journal 5"
-        reports("a check with an open act", ran, 1, told)
+        message = "with the numbers 6 to 8: the desk has 8 acts, and the journal 5"
+        reports("a check with an open act", ran, 1, message)
         ran = desk.tool("check", "--from", self.late)
-        told = "of 5 no answer is kept, and nobody can tell which the desk has"
-        reports("one from a late copy", ran, 1, told)
+        message = "the journal has no answer to 5, and nobody can tell which the desk has"
+        reports("one from a late copy", ran, 1, message)

@@ -1,11 +1,13 @@
 """Looks at gr-desk journal list. While a vote is running a list is the same whatever the ballots say and however many
 there are. It has the texts of a resolution, also those that were amended, and nothing of another one."""
+import json
+
 from tests.commands.journal_case import SECRETS, JournalCase, is_silent
 from tests.support.case import Case
-from tests.support.journaled import CALL, CALLED, CLOSE, DISCUSSION, VOTES, Journaled, reports, vote_of
+from tests.support.journaled import CALL, CALLED, CLOSE, DISCUSSION, ENDED, VOTES, Journaled, reports, vote_of
 from tests.support.program import DAY, T0, Ran
 from grdesk.journal.entry import Entries, line_of
-from grdesk.journal.timeline import Listing, running
+from grdesk.journal.listing import Listing, running_votes
 
 LISTS = ["list"], ["list", "1"]
 
@@ -31,9 +33,23 @@ class Secrecy(JournalCase):
                 found, other = self.few.tool(*words), self.many.tool(*words)
                 expected = Ran(other.status, other.out.replace(b"many", b"few"), other.err)
                 self.assertEqual(found, expected)
-                told = "call 1 days=7\n      ok places 3", "close 1\n      refused 13"
-                reports(f"{words} of a running vote", found, 0, *told)
+                message = "call 1 days=7\n      ok places 3", "close 1\n      refused 13"
+                reports(f"{words} of a running vote", found, 0, *message)
                 is_silent(f"{words} of a running vote", found, "vote 1", "login=d4", "ok 6", *SECRETS)
+
+    def test_a_ballot_that_was_replaced_before_it_was_sent_changes_no_list(self):
+        desk = self.copy_of(self.few)
+        before = [desk.tool(*words) for words in LISTS]
+        what = {"login": "d3", "ranks": "bbz", "token": "tokenA01", "source": {"sha256": "", "arrived": CALLED}}
+        with open(desk.journal, "a") as journal:
+            print(json.dumps(line_of("replaced", resolution=1, **what)), file=journal)
+        self.assertEqual([desk.tool(*words) for words in LISTS], before)
+        desk.accepts([(ENDED, ["close", "1"], "", "ok 8")])
+        for words in LISTS:
+            with self.subTest(words=words):
+                ran = desk.tool(*words)
+                reports(f"{words} of a closed vote", ran, 0, "ballots by day: 2026-01-15 1\n")
+                is_silent(f"{words} of a closed vote", ran, "d3", *SECRETS)
 
     def test_after_the_close_a_list_has_how_many_ballots_came_on_each_day(self):
         desk = self.copy_of(self.many)
@@ -72,8 +88,8 @@ class Numbers(Case):
         call = "/resolutions/1/call", {"days": "7"}, "ok 1 places 2"
         vote = "/resolutions/1/vote", {"login": "d1", "ranks": "12", "token": "t"}, None
         other = "/developers", {"login": "d1", "name": "One", "status": "current"}, "ok 3"
-        self.assertEqual(running(entries_of([call, vote, other])), {"1"})
-        self.assertEqual(running(entries_of([call, vote, other, ("/resolutions/1/close", {}, "ok 4")])), set())
+        self.assertEqual(running_votes(entries_of([call, vote, other])), {"1"})
+        self.assertEqual(running_votes(entries_of([call, vote, other, ("/resolutions/1/close", {}, "ok 4")])), set())
 
 
 OF_AMENDMENT = """      ok 5
@@ -110,5 +126,5 @@ class Timelines(JournalCase):
         for words in ["x"], ["01"], ["--", "-1"], [""]:
             with self.subTest(words=words):
                 ran = self.desk.tool("list", *words)
-                told = f"the number of a resolution is as 1 or 12, and not {words[-1]!r}"
-                reports(f"list {words}", ran, 2, told)
+                message = f"the number of a resolution is like 1 or 12, and not {words[-1]!r}"
+                reports(f"list {words}", ran, 2, message)

@@ -10,28 +10,39 @@ from tests.commands.journal_case import SECRETS, JournalCase, entries_in, is_sil
 from tests.support.case import Case
 from tests.support.journaled import CALL, DISCUSSION, VOTES, Journaled, reports
 from tests.support.program import DAY, LOCAL, PATIENCE, T0, copy_desk, once, receipt, serve
-from grdesk.journal.entry import Entries, Entry, Fate, Unknown, line_of
+from grdesk.error import Refused
+from grdesk.journal.entry import Entries, Entry, Fate, UnknownForm, line_of
+from grdesk.journal.open_act import check_settles
 
 VARY = ["vary", "1", "days=1"]
-OF_VARY = "of 4 (vary 1 days=1) no answer is kept"
+OF_VARY = "the journal has no answer to 4 (vary 1 days=1)"
 NEWCOMER = ["developer", "login=d9", "name=Nine", "status=current"]
-SETTLE = "say gr-desk journal settle 4 accepted, or settle 4 refused"
+SETTLE = "run gr-desk journal settle 4 accepted, or settle 4 refused"
 
 
-class Told:
-    """The acts of a journal, told line by line."""
+class GrowingJournal:
+    """The acts of a journal, which gets one line after the other."""
 
     def __init__(self):
         self.entries = Entries()
 
-    def act(self, moment=None, count=None):
-        """An act is sent: to a port, or to a file at a moment. Gives what is kept of it."""
+    def act(self, moment=None, count=None, held=False):
+        """An act is sent: to a port, or to a file at a moment; or it is held. Gives what is kept of it."""
         number = self.entries.next_number(False)
-        fields = {"login": "d1", "name": "One", "status": "current"}
-        what = {"number": number, "desk": None, "path": "/developers", "fields": fields, "source": None}
         before = T0 if moment is None else None
-        self.entries.take(line_of("act", **what, moment=moment, before=before, count=count))
+        if held:
+            self.entries.take(line_of("held", **self.what(number), moment=T0, until=None))
+        else:
+            self.entries.take(line_of("act", **self.what(number), moment=moment, before=before, count=count))
         return self.entries.all[number]
+
+    def sent(self, entry):
+        """An act that was held is sent."""
+        self.entries.take(line_of("act", **self.what(entry.number), moment=T0, before=None, count=0))
+
+    def what(self, number):
+        fields = {"login": "d1", "name": "One", "status": "current"}
+        return {"number": number, "desk": None, "path": "/developers", "fields": fields, "source": None}
 
     def answered(self, count, **how):
         """An act is sent, and accepted with this number."""
@@ -50,85 +61,115 @@ class Told:
 class Numbers(Case):
     """What the numbers of a journal say of an open act, and what they do not say."""
 
-    def told(self, *counts):
-        told = Told()
+    def journal_with(self, *counts):
+        journal = GrowingJournal()
         for count in counts:
-            told.answered(count)
-        return told
+            journal.answered(count)
+        return journal
 
     def test_an_act_over_which_the_clock_was_set_back_came_at_the_second_before_it(self):
         entry = Entry("1", "/resolutions/1/close", {}, None, None, before=1_000, after=990)
         self.assertEqual(list(entry.seconds()), [1_000])
 
     def test_an_act_by_a_port_with_the_one_free_number_is_not_accepted_for_that(self):
-        told = self.told(1, 2, 3)
-        lost = told.act()
-        told.answered(5)
-        self.assertEqual((lost.fate, sorted(told.entries.accepted)), (Fate.OPEN, [1, 2, 3, 5]))
-        self.assertEqual(told.entries.numbers_for(lost), [4])
+        journal = self.journal_with(1, 2, 3)
+        lost = journal.act()
+        journal.answered(5)
+        self.assertEqual((lost.fate, sorted(journal.entries.accepted)), (Fate.OPEN, [1, 2, 3, 5]))
+        self.assertEqual(journal.entries.numbers_for(lost), [4])
 
     def test_nor_is_one_to_a_file_with_another_one_after_it(self):
-        told = self.told(1, 2, 3)
-        lost = told.act(moment=T0, count=3)
-        told.answered(5)
+        journal = self.journal_with(1, 2, 3)
+        lost = journal.act(moment=T0, count=3)
+        journal.answered(5)
         self.assertEqual(lost.fate, Fate.OPEN)
 
     def test_nor_are_several_with_as_many_numbers(self):
-        told = self.told(1)
-        lost = [told.act() for _ in range(3)]
-        told.answered(5)
+        journal = self.journal_with(1)
+        lost = [journal.act() for _ in range(3)]
+        journal.answered(5)
         self.assertEqual([entry.fate for entry in lost], [Fate.OPEN] * 3)
-        self.assertEqual([told.entries.numbers_for(entry) for entry in lost], [[2, 3, 4]] * 3)
-        told.found(lost[1], 3)
-        self.assertEqual([told.entries.numbers_for(lost[place]) for place in (0, 2)], [[2], [4]])
+        self.assertEqual([journal.entries.numbers_for(entry) for entry in lost], [[2, 3, 4]] * 3)
+        journal.found(lost[1], 3)
+        self.assertEqual([journal.entries.numbers_for(lost[place]) for place in (0, 2)], [[2], [4]])
 
     def test_one_without_a_free_number_was_not_accepted(self):
-        told = self.told(1, 2)
-        lost = told.act()
-        told.answered(3)
+        journal = self.journal_with(1, 2)
+        lost = journal.act()
+        journal.answered(3)
         self.assertEqual(lost.fate, Fate.NOT_ACCEPTED)
 
     def test_a_line_of_an_earlier_program_that_settles_the_last_of_two_leaves_the_first_open(self):
-        told = self.told(1, 2)
-        first, last = told.act(), told.act()
-        told.found(last, 4)
+        journal = self.journal_with(1, 2)
+        first, last = journal.act(), journal.act()
+        journal.found(last, 4)
         self.assertEqual((first.fate, last.fate), (Fate.OPEN, Fate.ACCEPTED))
-        self.assertEqual(told.entries.numbers_for(first), [3])
+        self.assertEqual(journal.entries.numbers_for(first), [3])
 
     def test_a_replay_of_an_earlier_program_that_left_it_out_has_lower_numbers_after_it(self):
-        told = self.told(1)
-        lost = told.act()
-        told.answered(3)
+        journal = self.journal_with(1)
+        lost = journal.act()
+        journal.answered(3)
         known = {"sha256": "", "inode": 1, "count": 2}
-        told.entries.take(line_of("replay", desk="/desk", without=lost.number, answers={}, **known))
-        told.entries.take(line_of("replayed", is_done=True))
-        found = {number: entry.number for number, entry in told.entries.accepted.items()}
-        self.assertEqual((lost.fate, found, told.entries.last), (Fate.GONE, {1: "1", 2: "3"}, 2))
+        journal.entries.take(line_of("replay", desk="/desk", without=lost.number, answers={}, **known))
+        journal.entries.take(line_of("replayed", is_done=True))
+        found = {number: entry.number for number, entry in journal.entries.accepted.items()}
+        self.assertEqual((lost.fate, found, journal.entries.last), (Fate.GONE, {1: "1", 2: "3"}, 2))
 
     def test_an_act_that_is_settled_between_others_leaves_those_after_it(self):
-        told = self.told(1)
-        lost = told.act()
-        told.answered(3)
-        told.found(lost, 2)
-        self.assertEqual(told.fates(), [Fate.ACCEPTED] * 3)
-        self.assertEqual([entry.number for entry in told.entries.accepted.values()], ["1", "2", "3"])
+        journal = self.journal_with(1)
+        lost = journal.act()
+        journal.answered(3)
+        journal.found(lost, 2)
+        self.assertEqual(journal.fates(), [Fate.ACCEPTED] * 3)
+        self.assertEqual([entry.number for entry in journal.entries.accepted.values()], ["1", "2", "3"])
 
     def test_a_line_that_gives_it_a_number_of_another_is_of_no_form(self):
-        told = self.told(1)
-        lost = told.act()
-        told.answered(3)
+        journal = self.journal_with(1)
+        lost = journal.act()
+        journal.answered(3)
         for count in 1, 3, 4:
-            with self.subTest(count=count), self.assertRaises(Unknown):
-                told.found(lost, count)
+            with self.subTest(count=count), self.assertRaises(UnknownForm):
+                journal.found(lost, count)
+
+    def test_what_is_said_again_of_an_act_counts_in_the_place_of_the_first_word(self):
+        journal = self.journal_with(1)
+        lost = journal.act()
+        journal.found(lost, 2)
+        journal.answered(2)
+        self.assertEqual(journal.fates(), [Fate.ACCEPTED, Fate.GONE, Fate.ACCEPTED])
+        journal.entries = journal.entries.after(line_of("found", number=lost.number, count=None))
+        self.assertEqual(journal.fates(), [Fate.ACCEPTED, Fate.NOT_ACCEPTED, Fate.ACCEPTED])
+        self.assertEqual([entry.number for entry in journal.entries.accepted.values()], ["1", "3"])
+
+    def test_an_act_that_was_sent_again_is_not_settled_by_what_was_said_before(self):
+        journal = self.journal_with()
+        held = journal.act(held=True)
+        journal.sent(held)
+        journal.found(held, None)
+        journal.sent(held)
+        self.assertEqual(journal.entries.settled, {})
+        journal.found(held, 1)
+        self.assertEqual(journal.fates(), [Fate.ACCEPTED])
+
+    def test_what_later_lines_contradict_is_refused_and_changes_nothing(self):
+        journal = self.journal_with()
+        held = journal.act(held=True)
+        journal.sent(held)
+        journal.found(held, None)
+        journal.entries.take(line_of("dropped", number=held.number, source=None))
+        with self.assertRaisesRegex(Refused, "the journal has lines after it that do not go with that"):
+            check_settles(journal.entries, held, 1)
+        self.assertEqual(journal.fates(), [Fate.DROPPED])
 
     def test_after_a_desk_went_back_an_act_that_came_later_is_not_in_it(self):
-        told = self.told(1, 2, 3)
-        lost = told.act()
-        told.answered(5)
-        later = told.act()
-        told.answered(3)
+        journal = self.journal_with(1, 2, 3)
+        lost = journal.act()
+        journal.answered(5)
+        later = journal.act()
+        journal.answered(3)
         self.assertEqual((lost.fate, later.fate), (Fate.NOT_ACCEPTED, Fate.NOT_ACCEPTED))
-        self.assertEqual(sorted(told.entries.accepted), [1, 2, 3])
+        self.assertEqual(sorted(journal.entries.accepted), [1, 2, 3])
 
 
 def lost_by_port(desk, *words, given=""):
@@ -189,8 +230,8 @@ class Withdrawn(OpenCase):
         self.next = self.desk.act(*NEWCOMER)
 
     def test_the_next_act_says_that_it_is_open(self):
-        told = "4 (vary 1 days=1), sent ", "the desk may have accepted it", SETTLE
-        reports("the next act", self.next, 0, "ok 5\n", *told)
+        message = "4 (vary 1 days=1), sent ", "the desk may have accepted it", SETTLE
+        reports("the next act", self.next, 0, "ok 5\n", *message)
         self.assertEqual(self.fate(), Fate.OPEN)
 
     def test_a_list_says_that_no_answer_is_kept(self):
@@ -198,19 +239,19 @@ class Withdrawn(OpenCase):
 
     def test_a_replay_into_the_copy_enters_nothing_and_says_why(self):
         put_back(self.desk, self.night)
-        told = "nothing was entered: of 4 no answer is kept, and nobody can tell which the desk has"
-        reports("a replay", self.leaves("replay"), 1, told, SETTLE)
-        reports("a replay that is tried", self.leaves("replay", "--dry-run"), 1, told, SETTLE)
+        message = "nothing was entered: the journal has no answer to 4, and nobody can tell which the desk has"
+        reports("a replay", self.leaves("replay"), 1, message, SETTLE)
+        reports("a replay that is tried", self.leaves("replay", "--dry-run"), 1, message, SETTLE)
 
     def test_once_the_secretary_has_refused_it_a_replay_says_that_an_act_is_missing(self):
         put_back(self.desk, self.night)
         reports("settle", self.desk.tool("settle", "4", "refused"), 0, "ok\n", "counts as not accepted")
-        told = "nothing was entered: acts that came by another way are missing in the journal, with the numbers 4"
-        reports("a replay", self.leaves("replay"), 1, told)
+        message = "nothing was entered: acts that came by another way are missing in the journal, with the numbers 4"
+        reports("a replay", self.leaves("replay"), 1, message)
 
     def test_a_check_advises_no_replay_of_the_right_desk(self):
         ran = self.leaves("check")
-        reports("a check", ran, 1, "of 4 no answer is kept, and nobody can tell", "one of the two is wrong",
+        reports("a check", ran, 1, "the journal has no answer to 4, and nobody can tell", "one of the two is wrong",
                 "if an act came by another way, the desk is right: a replay would undo that act")
         is_silent("a check", ran, "mend it; ", "a copy and a replay mend it", "enters the others")
 
@@ -258,17 +299,17 @@ class Lost(OpenCase):
     def test_two_that_say_the_same_stay_open_where_the_desk_has_one(self):
         lost_by_port(self.desk, *VARY)
         self.accepted()
-        reports("the next act", self.desk.act(*NEWCOMER), 0, "ok 5\n", "say gr-desk journal settle N accepted")
+        reports("the next act", self.desk.act(*NEWCOMER), 0, "ok 5\n", "run gr-desk journal settle N accepted")
         self.assertEqual([self.fate("4"), self.fate("5")], [Fate.OPEN] * 2)
 
     def test_a_replay_enters_nothing_where_the_desk_that_is_gone_may_have_had_it(self):
         self.accepted()
         held = self.desk.rows()
         put_back(self.desk, self.night)
-        told = "nothing was entered: of 4 no answer is kept, and nobody can tell which the desk has"
-        reports("a replay", self.leaves("replay"), 1, told, SETTLE)
+        message = "nothing was entered: the journal has no answer to 4, and nobody can tell which the desk has"
+        reports("a replay", self.leaves("replay"), 1, message, SETTLE)
         reports("settle", self.desk.tool("settle", "4", "accepted", "--as", "4"), 0, "ok\n",
-                "4 (vary 1 days=1) counts as accepted, as number 4 of the acts of the desk")
+                "4 (vary 1 days=1) counts as accepted, as act 4 of the desk")
         reports("a replay then", self.desk.tool("replay"), 0, "entered 4: ", "ok\n")
         for table in "developer", "sponsor", "ballot2":
             self.assertEqual(self.desk.rows()[table], held[table])
@@ -293,7 +334,7 @@ class Settlements(OpenCase):
         with open(self.desk.journal, "a") as journal:
             for line in self.by_port("5", 5):
                 print(json.dumps(line), file=journal)
-        reports("settle", self.desk.tool("settle", "4", "accepted"), 0, "ok\n", "as number 4 of the acts of the desk")
+        reports("settle", self.desk.tool("settle", "4", "accepted"), 0, "ok\n", "as act 4 of the desk")
         found = {number: entry.number for number, entry in entries_in(self.desk.journal).accepted.items()}
         self.assertEqual(found, {1: "1", 2: "2", 3: "3", 4: "4", 5: "5"})
         reports("a check", self.desk.tool("check"), 0, "ok\n")
@@ -308,25 +349,63 @@ class Settlements(OpenCase):
 
     def test_what_cannot_be_is_refused_and_changes_nothing(self):
         lost_by_port(self.desk, *VARY)
-        for words, status, told in [
+        for words, status, message in [
             (["4", "accepted"], 1, "it may have one of several numbers; say which the desk gave it, by --as COUNT"),
-            (["4", "accepted", "--as", "3"], 1, "4 cannot be number 3 of the acts of the desk"),
-            (["3", "accepted", "--as", "4"], 1, "3 is no act of which the answer is missing"),
-            (["3", "refused"], 1, "3 is no act of which the answer is missing"),
-            (["9", "refused"], 1, "9 is no act of which the answer is missing"),
-            (["4", "refused", "--as", "4"], 2, "--as is the number of an act that was accepted"),
+            (["4", "accepted", "--as", "3"], 1, "4 cannot be act 3 of the desk"),
+            (["3", "accepted", "--as", "4"], 1, "3 is not an act whose answer is missing"),
+            (["3", "refused"], 1, "3 is not an act whose answer is missing"),
+            (["9", "refused"], 1, "9 is not an act whose answer is missing"),
+            (["4", "refused", "--as", "4"], 2, "--as goes with accepted: an act that was refused has no number"),
             (["4", "maybe"], 2, "not 'maybe'"),
-            (["4", "accepted", "--as", "04"], 2, "is as 7, and not '04'"),
-            (["x", "accepted"], 2, "is as 7, or of a vote as v7, and not 'x'"),
+            (["4", "accepted", "--as", "04"], 2, "is like 7, and not '04'"),
+            (["x", "accepted"], 2, "is like 7, or v7 for a vote, and not 'x'"),
             (["4"], 2, "the words of settle are N accepted, or N refused"),
         ]:
             with self.subTest(words=words):
-                reports(f"settle {words}", self.leaves("settle", *words), status, told)
+                reports(f"settle {words}", self.leaves("settle", *words), status, message)
 
-    def test_one_that_was_settled_is_not_settled_again(self):
+    def test_the_other_word_takes_back_what_was_said_and_the_journal_keeps_both_lines(self):
         lost_by_port(self.desk, *VARY)
-        reports("settle", self.desk.tool("settle", "4", "refused"), 0, "ok\n")
-        reports("settle again", self.leaves("settle", "4", "accepted", "--as", "4"), 1, "4 is no act of which")
+        self.comes("/resolutions/1/vary", "days=1", "ok 4")
+        reports("settle", self.desk.tool("settle", "4", "refused"), 0, "4 (vary 1 days=1) counts as not accepted\n")
+        before = self.desk.lines()
+        again = self.desk.tool("settle", "4", "accepted", "--as", "4")
+        reports("settle again", again, 0, "ok\n", "4 (vary 1 days=1) counts as accepted, as act 4 of the desk")
+        self.assertEqual((self.desk.lines()[:-1], self.fate()), (before, Fate.ACCEPTED))
+        reports("the check", self.desk.tool("check"), 0, "ok\n")
+        reports("settle once more", self.desk.tool("settle", "4", "refused"), 0, "counts as not accepted\n")
+        self.assertEqual(self.fate(), Fate.NOT_ACCEPTED)
+
+    def test_what_was_said_before_changes_nothing_if_it_is_said_again(self):
+        lost_by_port(self.desk, *VARY)
+        for words, message in (["refused"], "not accepted"), (["accepted", "--as", "4"], "accepted"):
+            with self.subTest(words=words):
+                reports("settle", self.desk.tool("settle", "4", *words), 0, "ok\n")
+                reports("settle again", self.leaves("settle", "4", *words), 1, f"4 counts as {message} already")
+
+    def test_another_number_takes_the_place_of_a_wrong_one(self):
+        lost_by_port(self.desk, *VARY)
+        self.comes("/developers", "login=d8&name=Eight&status=current", "ok 4")
+        self.comes("/resolutions/1/vary", "days=1", "ok 5")
+        for count in 4, 5:
+            reports("settle", self.desk.tool("settle", "4", "accepted", "--as", count), 0, f", as act {count} of")
+        found = {number: entry.number for number, entry in entries_in(self.desk.journal).accepted.items()}
+        self.assertEqual(found, {1: "1", 2: "2", 3: "3", 5: "4"})
+
+    def test_an_act_that_was_said_to_be_accepted_and_is_not_holds_up_none_once_that_is_taken_back(self):
+        lost_by_port(self.desk, *VARY)
+        reports("settle", self.desk.tool("settle", "4", "accepted", "--as", "4"), 0, "ok\n")
+        reports("the next act", self.desk.act(*NEWCOMER), 1, "nothing was sent: ", " lacks acts that ")
+        reports("settle again", self.desk.tool("settle", "4", "refused"), 0, "ok\n", "counts as not accepted\n")
+        reports("the act again", self.desk.act(*NEWCOMER), 0, "ok 4\n")
+        reports("the check", self.desk.tool("check"), 0, "ok\n")
+
+    def test_what_a_replay_has_entered_is_not_taken_back(self):
+        lost_by_port(self.desk, *VARY)
+        reports("settle", self.desk.tool("settle", "4", "accepted", "--as", "4"), 0, "ok\n")
+        reports("a replay", self.desk.tool("replay"), 0, "entered 4: ")
+        message = "4 is not an act whose answer is missing"
+        reports("settle again", self.leaves("settle", "4", "refused"), 1, message)
 
     def test_a_held_act_that_did_not_come_is_held_again(self):
         ran = self.desk.act("--hold", "1h", *VARY)
@@ -337,10 +416,14 @@ class Settlements(OpenCase):
             print(json.dumps(sent), file=journal)
         self.comes("/developers", "login=d8&name=Eight&status=current", "ok 4")
         self.comes("/developers", "login=d7&name=Seven&status=current", "ok 5")
-        told = "nothing was sent: look whether the desk has accepted 4"
-        reports("due", self.desk.tool("due"), 1, told, "settle 4 accepted, or settle 4 refused: then it is held")
-        reports("settle", self.desk.tool("settle", "4", "refused"), 0, "ok\n", "counts as not accepted, and is held\n")
+        message = "nothing was sent: find out whether the desk accepted 4"
+        reports("due", self.desk.tool("due"), 1, message, "settle 4 accepted, or settle 4 refused: then it is on hold")
+        ran = self.desk.tool("settle", "4", "refused")
+        reports("settle", ran, 0, "ok\n", "counts as not accepted, and is on hold\n")
         reports("the list", self.desk.tool("list"), 0, "held until ")
+        reports("drop", self.desk.tool("drop", "4"), 0, "ok\n")
+        message = "nothing was changed: by what the journal has after 4, the desk has not accepted it"
+        reports("settle again", self.leaves("settle", "4", "accepted", "--as", "4"), 1, message)
 
 
 class OpenVotes(JournalCase):
@@ -364,6 +447,6 @@ class OpenVotes(JournalCase):
     def test_a_check_says_of_the_ballots_of_a_running_vote_only_that_they_differ(self):
         put_back(self.desk, self.night)
         ran = self.desk.tool("check")
-        told = "ballot2 resolution 1: its ballots differ, and no more is said while it is in voting\n"
-        reports("a check", ran, 1, told)
+        message = "ballot2 resolution 1: its ballots differ, and no more is said while it is in voting\n"
+        reports("a check", ran, 1, message)
         is_silent("a check", ran, "login d1", "login d2", "login d3")

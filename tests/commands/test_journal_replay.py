@@ -3,9 +3,12 @@ journal, or leaves it as it is, byte for byte: where acts are missing, where an 
 act may be left out. A replay that was killed after its copy had the place of the desk is found done."""
 import json
 import re
+import sqlite3
 import stat
+from contextlib import closing
 
 from tests.commands.journal_case import SECRETS, SHORTER, JournalCase, entries_in, is_silent, put_back
+from tests.support.failing import failing
 from tests.support.journaled import (
     CALL,
     CALLED,
@@ -21,6 +24,8 @@ from tests.support.journaled import (
     vote_of,
 )
 from tests.support.program import DAY, T0, Ran, copy_desk, make_desk, once, receipt, serve
+from grdesk.journal.entry import Entries, line_of
+from grdesk.journal.stopped_replay import became_of, with_replay
 
 WITHDRAW = ["withdraw", "1", "choice=1"]
 
@@ -69,12 +74,21 @@ class Replays(JournalCase):
         reports("its check", desk.tool("check"), 0, "ok")
         reports("its check from the copy", desk.tool("check", "--from", self.night), 0, "ok")
 
+    def test_a_replay_that_is_done_says_so_although_its_journal_takes_no_more(self):
+        held, desk = self.voted.rows(), self.restored()
+        line = ["journal", "replay", desk.journal, desk.file]
+        ran = desk.run(*line, environment=failing(self.folder(), lines=1))
+        message = f"the replay is done, and {desk.file} has these acts, but {desk.journal} cannot be written: No space"
+        reports("a replay on a full disk", ran, 0, message, "entered the votes between\nok\n")
+        same_rows("after a replay on a full disk", desk.file, held)
+        reports("the next replay", desk.tool("replay"), 0, "so it is done", "nothing is missing in the desk")
+
     def test_a_dry_run_says_what_a_replay_would_enter_and_enters_nothing(self):
         desk = self.restored()
         before = desk.file.read_bytes(), desk.lines()
         ran = desk.tool("replay", "--dry-run")
-        told = "would enter 6: 2026-01-15T00:00:00Z", "would enter the votes between"
-        reports("a replay that is tried", ran, 0, *told)
+        message = "would enter 6: 2026-01-15T00:00:00Z", "would enter the votes between"
+        reports("a replay that is tried", ran, 0, *message)
         is_silent("a replay that is tried", ran, *SECRETS)
         self.assertEqual((desk.file.read_bytes(), desk.lines()), before, "the desk and its journal")
 
@@ -84,16 +98,16 @@ class Replays(JournalCase):
         for words in WITHDRAW, ["--yes", *WITHDRAW], CALL[1]:
             with self.subTest(words=words):
                 ran = desk.act("--at", CALLED + DAY + 1, *words)
-                told = "nothing was sent: ", "gr-desk journal replay", "with --give-up"
-                reports("an act before the replay", ran, 1, *told)
+                message = "nothing was sent: ", "gr-desk journal replay", "with --give-up"
+                reports("an act before the replay", ran, 1, *message)
                 self.assertEqual((desk.file.read_bytes(), desk.lines()), before, "the desk and its journal")
 
     def test_the_acts_that_a_desk_lacks_are_given_up_by_give_up_alone(self):
         desk = self.copy_of(self.voted)
         put_back(desk, self.night)
         ran = desk.act("--at", CALLED + DAY + 1, "--give-up", *WITHDRAW)
-        told = f"{desk.file} lacks acts that {desk.journal} has, and they are given up"
-        reports("one that gives up", ran, 0, "ok 6", told)
+        message = f"{desk.file} lacks acts that {desk.journal} has, and they are given up"
+        reports("one that gives up", ran, 0, "ok 6", message)
         reports("the replay after it", desk.tool("replay"), 0, "nothing is missing in the desk")
         reports("the check after it", desk.tool("check"), 0, "ok")
 
@@ -102,7 +116,7 @@ class Replays(JournalCase):
         put_back(desk, self.night)
         with self.subTest(words="--hold"):
             ran = desk.act("--at", CALLED + DAY + 1, "--give-up", "--hold", "1h", *WITHDRAW)
-            reports("an act that waits and gives up", ran, 2, "--give-up and --hold stand there")
+            reports("an act that waits and gives up", ran, 2, "--give-up and --hold are given")
         for place in ["--port", 9, "--journal", desk.journal], ["--desk", desk.file]:
             with self.subTest(words=place[0]):
                 ran = desk.run("act", *place, "--give-up", *WITHDRAW)
@@ -124,8 +138,8 @@ class Refusals(ReplayCase):
         for vote, acts, kept in SHORTER:
             with self.subTest(vote=vote, kept=kept), self.shorter_journal(vote, acts, kept) as (desk, lacks):
                 ran = desk.tool("replay")
-                told = f"gr-desk journal: nothing was entered: {lacks}\n"
-                self.assertEqual((ran.status, ran.out, ran.err.decode()), (1, b"", told))
+                message = f"gr-desk journal: nothing was entered: {lacks}\n"
+                self.assertEqual((ran.status, ran.out, ran.err.decode()), (1, b"", message))
 
     def with_acts_by_another_way(self, acts):
         """A desk with these acts, two that came by another way, and one after them, in whose place the copy is."""
@@ -156,7 +170,7 @@ class Refusals(ReplayCase):
         self.assertEqual((desk.journal.read_bytes(), other.file.read_bytes()), kept, "the journal and the desk")
 
     def test_a_replay_stops_at_the_first_answer_that_differs(self):
-        for words, old, new, told in [
+        for words, old, new, message in [
             ("a vote", receipt(1, "d2", "tokenA02"), "0" * 64, "v2, a vote, is answered in another way than it was"),
             ("a call", str(ENDED), str(ENDED + 1), "6 (call 1 days=7) was answered `ok 6 places 3 until 1769040001`"),
         ]:
@@ -164,7 +178,7 @@ class Refusals(ReplayCase):
                 desk = self.made([*DISCUSSION, CALL, *VOTES])
                 put_back(desk, self.night)
                 desk.journal.write_bytes(desk.journal.read_bytes().replace(old.encode(), new.encode()))
-                ran = self.refuses(desk, 1, told)
+                ran = self.refuses(desk, 1, message)
                 is_silent("a replay that differs", ran, receipt(1, "d2", "tokenA02"), "tokenA02")
                 self.assertEqual(list(desk.file.parent.glob(".desk-*")), [], "what stands beside it")
 
@@ -176,8 +190,8 @@ class OtherDesks(ReplayCase):
         """A replay enters nothing into a desk, which is another one, and its journal stays. Gives what it reports."""
         before = file.read_bytes(), journaled.lines()
         ran = journaled.run("journal", "replay", journaled.journal, file)
-        told = f"nothing was entered: {file} is no copy of the desk of {journaled.journal}"
-        reports("a replay into another desk", ran, 1, told, *texts)
+        message = f"nothing was entered: {file} is no copy of the desk of {journaled.journal}"
+        reports("a replay into another desk", ran, 1, message, *texts)
         self.assertEqual((file.read_bytes(), journaled.lines()), before, "the desk and the journal")
         return ran
 
@@ -211,8 +225,8 @@ class OtherDesks(ReplayCase):
         for acts in [], VOTES[1:3]:
             other.accepts(acts)
             with self.subTest(acts=len(acts)):
-                told = "make other rows: ballot2 resolution 1: its ballots differ, and no more is said while it is in"
-                ran = self.refused(desk, other.file, told)
+                message = "make other rows: ballot2 resolution 1: its ballots differ, and no more is said while it is"
+                ran = self.refused(desk, other.file, message)
                 is_silent("a replay into another desk", ran, "login d", *SECRETS)
 
 
@@ -247,8 +261,9 @@ class FromCopies(ReplayCase):
         return ran
 
     def test_without_a_copy_nothing_is_entered_and_that_is_said(self):
-        told = "nothing was entered: acts that came by another way are missing in the journal, with the numbers 1 to 3"
-        reports("a replay", self.refuses(), 1, told, "--from COPY, an earlier copy of it that has them, shows it\n")
+        message = "nothing was entered: acts that came by another way are missing in the journal"
+        message = f"{message}, with the numbers 1 to 3"
+        reports("a replay", self.refuses(), 1, message, "--from COPY, an earlier copy of it that has them, shows it\n")
 
     def test_from_an_earlier_copy_the_acts_are_entered_and_compared(self):
         reports("a replay", self.restored.tool("replay", "--from", self.early), 0, "entered 3: ", "ok\n")
@@ -298,7 +313,7 @@ class Omissions(ReplayCase):
 
     def test_an_act_that_the_desk_has_cannot_be_left_out(self):
         ran = self.copy_of(self.desk).tool("replay", "--without", "6")
-        reports("without an act that it has", ran, 1, "6 is none of the acts")
+        reports("without an act that it has", ran, 1, "6 is not one of the acts")
 
     def test_a_replay_without_an_act_makes_the_desk_that_never_had_it(self):
         reports("a replay without 6", self.came, 0, "ok")
@@ -309,10 +324,10 @@ class Omissions(ReplayCase):
         reports("the list without 6", self.replayed.tool("list"), 0, "gone with the desk that had it")
         closed = self.copy_of(self.replayed)
         closed.accepts([(ENDED + 7 * DAY, ["close", "1"], "", "ok 8")])
-        told = closed.tool("list").out.decode()
-        numbers = re.findall("^ +(ok [0-9]+)", told, re.M)
+        message = closed.tool("list").out.decode()
+        numbers = re.findall("^ +(ok [0-9]+)", message, re.M)
         self.assertEqual(numbers, [f"ok {number}" for number in (1, 2, 3, 4, 5, 6, 8)])
-        self.assertIn(f"call 1 days=7\n      ok 6 places 3 until {ENDED + 7 * DAY}\n", told)
+        self.assertIn(f"call 1 days=7\n      ok 6 places 3 until {ENDED + 7 * DAY}\n", message)
 
     def test_a_replay_that_was_killed_before_it_was_in_the_journal_is_found_done(self):
         desk = self.copy_of(self.replayed)
@@ -347,8 +362,8 @@ class KilledReplays(ReplayCase):
 
     def done(self, desk):
         """What the next tool reports."""
-        is_done = f"a replay was stopped: its copy has the place of {desk.file}, so it is done"
-        return f"{is_done}; acts came since by another"
+        is_done = f"a replay was stopped: its copy is in the place of {desk.file}, so it is done"
+        return f"{is_done}; acts have come by another"
 
     def test_the_replay_is_found_done_by_a_list(self):
         desk = self.killed()
@@ -371,9 +386,85 @@ class KilledReplays(ReplayCase):
         # The copy has not the place of the desk any more, where an earlier one was put back.
         desk.journal.write_bytes(b"".join(desk.lines()[:-3]))
         put_back(desk, self.night)
-        told = f"a replay was stopped: its copy does not have the place of {desk.file}, so nothing was entered\n"
-        reports("a replay of both", desk.tool("replay"), 0, told, "entered 6: ", "entered 7: ", "ok\n")
+        message = f"a replay was stopped: its copy is not in the place of {desk.file}, so nothing was entered\n"
+        reports("a replay of both", desk.tool("replay"), 0, message, "entered 6: ", "entered 7: ", "ok\n")
         reports("its check", desk.tool("check"), 0, "ok")
+
+
+class PutBackAfterAReplay(ReplayCase):
+    """A replay that left out an act was killed when the journal had its line. By then its copy had the place of the
+    desk, or not, and something else was put there."""
+
+    DONE = "a replay was stopped: its copy is in the place of {0}, so it is done\n"
+    NOT_DONE = "a replay was stopped: its copy is not in the place of {0}, so nothing was entered\n"
+
+    def setUp(self):
+        self.desk = self.made([*DISCUSSION, VARY, LATE_CALL])
+        self.newer = copy_desk(self.desk.file, self.folder() / "newer.db")
+        put_back(self.desk, self.night)
+        reports("a replay without 6", self.desk.tool("replay", "--without", "6"), 0, "ok")
+        self.desk.journal.write_bytes(b"".join(self.desk.lines()[:-1]))
+
+    def put_into_the_file(self, copy):
+        """Puts a copy there, which gets the inode of the one that the replay has put there."""
+        inode = self.desk.file.stat().st_ino
+        whole = copy_desk(copy, self.folder() / "whole.db")
+        with closing(sqlite3.connect(whole)) as conn:
+            conn.execute("PRAGMA wal_checkpoint(TRUNCATE)")
+        self.desk.file.write_bytes(whole.read_bytes())
+        self.desk.file.with_name(f"{self.desk.file.name}-wal").unlink(missing_ok=True)
+        self.assertEqual((self.desk.file.stat().st_ino, accepted_of(self.desk.file)), (inode, accepted_of(copy)))
+
+    def finds(self, words, *texts):
+        """The tool reports what became of the replay, and these texts."""
+        expected = words.format(self.desk.file), *texts
+        reports("a list", self.desk.tool("list"), 0, *expected)
+        reports("an act", self.desk.act("--at", LATE_CALL[0], "developer", "login=e7", "name=A", "status=current"), 0,
+                *expected[:1])
+        reports("the check after it", self.desk.tool("check"), 0, "ok\n")
+
+    def accepted(self):
+        found = {number: entry.number for number, entry in entries_in(self.desk.journal).accepted.items()}
+        return list(found.values())
+
+    def test_a_newer_copy_with_the_same_inode_is_not_taken_for_the_replay(self):
+        self.put_into_the_file(self.newer)
+        self.finds(self.NOT_DONE)
+        self.assertEqual(self.accepted(), ["1", "2", "3", "4", "5", "6", "7", "8"])
+
+    def test_a_copy_of_the_replayed_desk_with_another_inode_is_taken_for_it(self):
+        with closing(sqlite3.connect(self.desk.file)) as conn:
+            conn.execute("VACUUM")
+        put_back(self.desk, copy_desk(self.desk.file, self.folder() / "replayed.db"))
+        self.finds(self.DONE, "gone with the desk that had it")
+        self.assertEqual(self.accepted(), ["1", "2", "3", "4", "5", "7", "8"])
+
+    def test_while_the_desk_cannot_be_read_that_is_said_and_found_out_later(self):
+        replayed = copy_desk(self.desk.file, self.folder() / "replayed.db")
+        message = f"a replay was stopped, and {self.desk.file} cannot be read to see whether it was done: "
+        before = self.desk.lines()
+        self.desk.file.write_bytes(b"no desk\n")
+        reports("a list of what is no desk", self.desk.tool("list"), 0, message)
+        reports("an act with what is no desk", self.desk.tool("drop", "1"), 3, f"nothing was done: {message}",
+                "; put a copy of that desk in its place, or move it away\n")
+        self.desk.file.unlink()
+        reports("a list without a desk", self.desk.tool("list"), 0, f"{message}No such file or directory\n")
+        reports("an act without a desk", self.desk.tool("drop", "1"), 1, message)
+        self.assertEqual(self.desk.lines(), before)
+        put_back(self.desk, replayed)
+        self.finds(self.DONE)
+
+    def test_a_replay_whose_open_act_was_settled_meanwhile_is_not_done(self):
+        entries = Entries()
+        fields = {"login": "d1", "name": "One", "status": "current"}
+        what = {"number": "1", "desk": "/desk", "path": "/developers", "fields": fields, "source": None}
+        known = {"sha256": "", "inode": 1, "count": 1}
+        for line in [line_of("act", **what, moment=T0, before=None, count=0),
+                     line_of("replay", desk="/desk", without=None, answers={"1": "ok 1\n"}, **known)]:
+            entries.take(line)
+        self.assertEqual(with_replay(entries).last, 1)
+        entries.take(line_of("found", number="1", count=None))
+        self.assertEqual(became_of(entries)[0], False)
 
 
 class OtherPlaces(ReplayCase):
@@ -382,14 +473,14 @@ class OtherPlaces(ReplayCase):
         moved = Journaled(self.folder(), "moved")
         moved.journal = desk.journal
         copy_desk(self.night, moved.file)
-        told = "is the journal of the desk"
-        reports("an act at another place", moved.act("--at", ENDED, "close", "1"), 1, told)
-        now = f"is the journal of {moved.file}, and no more of {desk.file}"
+        message = "is the journal of the desk"
+        reports("an act at another place", moved.act("--at", ENDED, "close", "1"), 1, message)
+        now = f"is the journal of {moved.file}, and no longer of {desk.file}"
         reports("its replay", moved.tool("replay"), 0, "ok", now)
         same_rows("at the new place", moved.file, desk.rows())
         developer = ["developer", "login=d5", "name=A", "status=current"]
         reports("an act there", moved.act("--at", ENDED, *developer), 0, "ok 12")
-        reports("an act at the old place", desk.act("--at", ENDED, "close", "1"), 1, told)
+        reports("an act at the old place", desk.act("--at", ENDED, "close", "1"), 1, message)
 
 
 class Ports(JournalCase):
@@ -435,8 +526,8 @@ class Ports(JournalCase):
         put_back(desk, self.first)
         with serve(desk.file, 2) as served:
             ran = desk.run("act", "--port", served.port, *words)
-            way_back = "take the last two lines out of the journal"
-            reports("an act before a replay", ran, 0, "ok 1", "given up", way_back)
+            way_back = "remove the last two lines of the journal"
+            reports("an act before a replay", ran, 0, "ok 1", "gives them up", way_back)
             is_silent("the next one", desk.run("act", "--port", served.port, *words), "given up")
             served.ended()
         desk.journal.write_bytes(b"".join(desk.lines()[:-4]))

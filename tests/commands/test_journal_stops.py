@@ -100,7 +100,7 @@ def replay_without_again(what, desk):
     """Where the copy had its place already, it lacks the act that had to be left out."""
     ran = desk.tool("replay", "--without", "6")
     if ran.status != 0:
-        reports(f"{what}: the next replay", ran, 1, "6 is none of the acts to enter")
+        reports(f"{what}: the next replay", ran, 1, "6 is not one of the acts to enter")
 
 
 # The lines.
@@ -234,11 +234,11 @@ class StopsOfAReplay(StopsOfALine):
         moment = self.line.rows[0]["desk"][0][3]
         once(desk.file, moment, "/developers", "login=e1&name=A&status=current", f"ok {count + 1}")
         ran = desk.act("--at", moment, "developer", "login=e2", "name=A", "status=current")
-        reports("the next act", ran, 0, f"ok {count + 2}\n", "so it is done; acts came since by another way\n")
+        reports("the next act", ran, 0, f"ok {count + 2}\n", "so it is done; acts have come by another way since\n")
         accepted = entries_in(desk.journal).accepted
         self.assertEqual(sorted(accepted), [*range(1, count + 1), count + 2], "the acts of the journal")
         self.assertEqual(len({entry.number for entry in accepted.values()}), count + 1, "without those it has twice")
-        missing = "acts that came by another way are missing in the journal, so that it cannot be seen"
+        missing = "acts that came by another way are missing in the journal, so nobody can see"
         reports("a replay after it", desk.tool("replay"), 1, missing)
         copy = copy_desk(desk.file, self.folder() / "copy.db")
         reports("one from a copy", desk.tool("replay", "--from", copy), 0, "nothing is missing in the desk\n")

@@ -259,7 +259,7 @@ class Package(Case):
 
     def test_it_requires_the_version_of_the_c_library_that_the_program_names(self):
         if not shutil.which("readelf"):
-            self.skipTest("no readelf is there to say of which C library it is")
+            self.skipTest("readelf is not installed")
         line = ["readelf", "--version-info", "--wide", PROGRAM]
         text = runs(line, env=os.environ | {"LC_ALL": "C"}).out.decode()
         versions = {tuple(map(int, each.split("."))) for each in re.findall(r"Name: GLIBC_([0-9.]+)", text)}
@@ -290,7 +290,7 @@ class Package(Case):
 
     def test_the_vote_of_readme_comes_to_its_result_by_what_was_unpacked(self):
         if not os.access("/usr/bin/python3", os.X_OK):
-            self.skipTest("no /usr/bin/python3 is there to lead a vote by")
+            self.skipTest("/usr/bin/python3 is not installed")
         place = self.folder()
         part = re.search(r"^## A whole vote.*?(?=^## )", (TOP / "README.md").read_text(), re.M | re.S)[0]
         steps = "\n".join(re.findall(r"^```$(.*?)^```$", part, re.M | re.S))
@@ -303,7 +303,7 @@ class Package(Case):
 
     def test_a_recount_runs_by_what_was_unpacked(self):
         if not os.access("/usr/bin/python3", os.X_OK):
-            self.skipTest("no /usr/bin/python3 is there to recount by")
+            self.skipTest("/usr/bin/python3 is not installed")
         sheets = (self.root / DOCS / "examples" / "votes" / f"whole_vote.{kind}" for kind in ("tally", "result"))
         ran = runs([self.root / "usr" / "bin" / "gr-desk", "recount", *sheets])
         self.assertEqual(ran.status, 0, ran.err.decode())
@@ -311,7 +311,7 @@ class Package(Case):
 
     def test_man_shows_each_page_without_a_warning(self):
         if not shutil.which("man"):
-            self.skipTest("no `man` is there")
+            self.skipTest("man is not installed")
         self.assertTrue(self.pages())
         environment = os.environ | {"LC_ALL": "C.UTF-8", "MANWIDTH": "100"}
         for name in self.pages():
@@ -321,14 +321,14 @@ class Package(Case):
 
     def test_bash_completes_words(self):
         if not shutil.which("bash"):
-            self.skipTest("no bash is there")
+            self.skipTest("bash is not installed")
         script = self.root / "usr/share/bash-completion/completions/gr-desk"
         call = '. "$1"; COMP_WORDS=(gr-desk mig); COMP_CWORD=1; _gr_desk; echo "${COMPREPLY[@]}"'
         self.assertEqual(runs(["bash", "-c", call, "bash", script]), Ran(0, b"migrate\n", b""))
 
     def test_the_units_pass_systemd_analyze_but_for_where_what_they_run_lies(self):
         if not shutil.which("systemd-analyze"):
-            self.skipTest("no systemd-analyze is there")
+            self.skipTest("systemd-analyze is not installed")
         place = self.folder()
         for name in self.units():
             text = (self.root / name).read_text().replace(f"/{HOME}/", f"{self.root}/{HOME}/")
@@ -339,7 +339,7 @@ class Package(Case):
 
     def test_dpkg_deb_unpacks_the_same(self):
         if not shutil.which("dpkg-deb"):
-            self.skipTest("no dpkg-deb is there")
+            self.skipTest("dpkg-deb is not installed")
         place = self.folder() / "by dpkg"
         self.assertEqual(runs(["dpkg-deb", "-x", self.here / NAME, place]), Ran(0, b"", b""))
         self.assertEqual(runs(["diff", "--no-dereference", "-r", place, self.root]), Ran(0, b"", b""))

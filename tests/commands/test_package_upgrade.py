@@ -340,8 +340,10 @@ class ByDpkg(Case):
 
     @classmethod
     def setUpClass(cls):
-        if not shutil.which("dpkg") or os.geteuid() != 0:
-            raise unittest.SkipTest("dpkg is not there, or this is not root's account")
+        if not shutil.which("dpkg"):
+            raise unittest.SkipTest("dpkg is not installed")
+        if os.geteuid() != 0:
+            raise unittest.SkipTest("only root installs a package")
         made = cls.shared_folder() / "made"
         expect("package", tool("package", made)[:2], (0, b"ok\n"))
         [cls.deb] = made.glob("*.deb")
@@ -367,7 +369,7 @@ class ByDpkg(Case):
 
     def test_an_install_makes_an_account_with_an_empty_private_folder(self):
         if not self.has_account():
-            self.skipTest("systemd-sysusers or systemd-tmpfiles is not there")
+            self.skipTest("systemd-sysusers or systemd-tmpfiles is not installed")
         account = (self.root / "etc/passwd").read_text().split(":")
         about = self.home.stat()
         self.assertEqual((stat.filemode(about.st_mode), about.st_uid), ("drwx------", int(account[2])))

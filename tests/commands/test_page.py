@@ -16,7 +16,7 @@ from tests.support.journaled import CALL, DISCUSSION, VOTES, Journaled
 from tests.support.program import DAY, T0, TOP, Ran, expect, run, serve, tool
 
 sys.path.insert(0, str(TOP / "tools"))
-from grdesk.web.closed_vote import Vote  # noqa: E402
+from grdesk.web.closed_vote import ClosedVote  # noqa: E402
 from grdesk.web.matrix import matrix  # noqa: E402
 
 HOSTILE = "<b>Green</b> \u202e & \"'"
@@ -269,9 +269,9 @@ class Places(Pages):
         outbox.mkdir(parents=True)
         (outbox / ".written").write_text("")
         for place, why in (
-            (outbox, f"{outbox} lies in the outbox {outbox}"),
-            (outbox / "public", f"{outbox}/public lies in the outbox {outbox}"),
-            (box, f"{box} holds the outbox {outbox}"),
+            (outbox, f"{outbox} is inside the outbox {outbox}: name another folder"),
+            (outbox / "public", f"{outbox}/public is inside the outbox {outbox}: name another folder"),
+            (box, f"{box} contains the outbox {outbox}: name another folder"),
         ):
             with self.subTest(place=place.name):
                 self.assertEqual(tool("page", self.desk.file, "--all", place), self.refused(why))
@@ -453,7 +453,7 @@ class Matrices(Case):
                 order = RANKS[:count]
                 options = {place: f"Option {place}" for place in range(1, count + 1)}
                 ballots = [(order, ""), (order[::-1], "")]
-                vote = Vote(1, "", 9, options, {}, {}, {}, [1], "Winner: 1", 1, ballots, None)
+                vote = ClosedVote(1, "", 9, options, {}, {}, {}, [1], "Winner: 1", 1, ballots, None)
                 tables = matrix(vote).split("<table>")[1:]
                 heads = [re.findall('<th scope="col"[^>]*>([0-9]+)</th>', table) for table in tables]
                 self.assertEqual([len(head) for head in heads], blocks)

@@ -35,7 +35,7 @@ CHANGES = [
     (
         b"Pair 1 2: 6 3",
         b"Pair 1 2: 6",
-        "line 13 of the result of resolution 1 is none of such a sheet, so what answers is no desk",
+        "line 13 of the result of resolution 1 does not fit such a sheet, so what answers is no desk",
     ),
 ]
 
@@ -178,7 +178,7 @@ class ClosedVotes(Case):
     def test_a_browser_renders_the_page_and_runs_no_script(self):
         browser = next(filter(None, map(shutil.which, ("chromium", "chromium-browser", "google-chrome"))), None)
         if not browser:
-            self.skipTest("no Chromium is there to render it")
+            self.skipTest("Chromium is not installed")
         work = self.folder()
         place, picture = work / "page.html", work / "page.png"
         place.write_text(self.strange.text)

@@ -5,8 +5,8 @@ from types import SimpleNamespace
 from tests.support.case import Case
 from tests.support.in_process import loaded, stopped
 
+from grdesk.error import Refused  # noqa: E402
 from grdesk.journal.journal import journal_at  # noqa: E402
-from grdesk.stop import Refused  # noqa: E402
 
 CLOSE = {"number": "1", "path": "/resolutions/1/close", "fields": {}, "source": None}
 
@@ -32,8 +32,8 @@ class PageJournal(Case):
                 self.assertEqual(list(self.entries(desk).all), ["1"])
 
     def test_that_of_another_desk_is_refused(self):
-        told = f"{self.journal} is the journal of the desk {os.path.realpath(self.desk)}, and not of {self.other}"
-        self.assertEqual(stopped(Refused, self.entries, self.other), told)
+        message = f"{self.journal} is the journal of the desk {os.path.realpath(self.desk)}, and not of {self.other}"
+        self.assertEqual(stopped(Refused, self.entries, self.other), message)
 
     def test_by_a_port_it_is_taken_as_it_is(self):
         self.assertEqual(list(self.entries(None).all), ["1"])

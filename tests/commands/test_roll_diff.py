@@ -65,12 +65,12 @@ class RollDiffs(Case):
 
     def expected(self, names):
         """What comes of a roll file in which bob and eve have no row."""
-        told = said(
+        message = said(
             f'bob is current and not in {names}: Bob "B", <U+202E>eniaK<U+200F>',
             f"eve is current and not in {names}: Eve<U+2028>O'Hara",
             f"2 of 4 current developers are not in {names}",
         )
-        return Ran(0, HEADER.encode() + BOB + "eve,Eve\u2028O'Hara,retired\n".encode(), told)
+        return Ran(0, HEADER.encode() + BOB + "eve,Eve\u2028O'Hara,retired\n".encode(), message)
 
     def test_roll_files_of_each_form_name_the_same_two(self):
         for form, text in FORMS.items():
@@ -108,17 +108,17 @@ class RollDiffs(Case):
         file = copy_desk(self.file, self.folder() / "desk.db")
         names, rows = self.roll_file(FORMS["lines"]), self.folder() / "retired.csv"
         rows.write_bytes(diff(file, names).out)
-        told = Ran(0, b"ok 2 added 0 changed 2 same 0\n", b"")
-        self.assertEqual(run("import", file, rows, "--at", T0), told, "import of the rows")
+        message = Ran(0, b"ok 2 added 0 changed 2 same 0\n", b"")
+        self.assertEqual(run("import", file, rows, "--at", T0), message, "import of the rows")
         retired = [(login, name, "retired" if login in ("bob", "eve") else status) for login, name, status in ROLL]
         lines = "".join(f"D: {login} {status} {name}\n" for login, name, status in retired)
-        told = Ran(0, f"Developers: 5\nCurrent: 2\n{lines}".encode(), b"")
-        self.assertEqual(run("roll", file), told, "the roll after it")
+        message = Ran(0, f"Developers: 5\nCurrent: 2\n{lines}".encode(), b"")
+        self.assertEqual(run("roll", file), message, "the roll after it")
         nobody = Ran(0, HEADER.encode(), said(f"0 of 2 current developers are not in {names}"))
         self.assertEqual(diff(file, names), nobody, "nobody is missing")
         rows.write_bytes(nobody.out)
-        told = Ran(0, b"ok 3 added 0 changed 0 same 0\n", b"")
-        self.assertEqual(run("import", file, rows, "--at", T0), told, "import of no rows")
+        message = Ran(0, b"ok 3 added 0 changed 0 same 0\n", b"")
+        self.assertEqual(run("import", file, rows, "--at", T0), message, "import of no rows")
 
     def test_words_that_are_wrong_write_nothing(self):
         port, names, work = free_port(), self.roll_file(HEADER), self.folder()
@@ -147,7 +147,7 @@ class RollDiffs(Case):
                 HEADER.encode() + b"alice,A,current\nbob,B,gone\n",
                 "{}: the status of record 3 is neither current nor retired",
             ),
-            (HEADER.encode() + b"alice,\xff,current\n", "{} is no UTF-8"),
+            (HEADER.encode() + b"alice,\xff,current\n", "{} is not UTF-8"),
             (HEADER.encode() + b"a" * 1_048_576, "{} has more than 1048576 bytes, which no import takes"),
         ]:
             with self.subTest(content=content[:40]):
@@ -156,7 +156,7 @@ class RollDiffs(Case):
 
     def test_help_has_the_form_of_its_words(self):
         ran = diff("--help")
-        form = b"    gr-desk roll_diff DESK ROLL.csv > retired.csv\n"
+        form = b"usage: gr-desk roll_diff DESK ROLL.csv > retired.csv\n"
         self.assertEqual((ran.status, form in ran.out), (0, True))
 
 
@@ -183,8 +183,8 @@ class RollFiles(Case):
         self.assertEqual(len(whole), 1_048_576)
         self.assertEqual(self.read(whole), {"alice"})
         more = whole.replace(b",current", b"A,current")
-        told = f"{self.path} has more than 1048576 bytes, which no import takes"
-        self.assertEqual(self.read(more), told)
+        message = f"{self.path} has more than 1048576 bytes, which no import takes"
+        self.assertEqual(self.read(more), message)
 
     def test_logins_are_those_of_all_rows_whatever_their_status(self):
         rows = b"alice,Alice,current\nbob,Bob,retired\n"
@@ -192,14 +192,14 @@ class RollFiles(Case):
         self.assertEqual(self.read(HEADER.encode()), set())
 
     def test_the_record_of_another_form_is_named_by_its_number_without_empty_lines(self):
-        for rows, told in (
+        for rows, message in (
             (b"\nalice,Alice\n", "{} is no roll file: record 2 has 2 fields, and not 3"),
             (b"alice,A,current\n\nbob,B,current,x\n", "{} is no roll file: record 3 has 4 fields, and not 3"),
             (b"alice,A,Current\n", "{}: the status of record 2 is neither current nor retired"),
             (b"alice,A,current\nbob,B,\n", "{}: the status of record 3 is neither current nor retired"),
         ):
             with self.subTest(rows=rows):
-                self.assertEqual(self.read(HEADER.encode() + rows), told.format(self.path))
+                self.assertEqual(self.read(HEADER.encode() + rows), message.format(self.path))
 
     def test_rows_retire_and_quote_what_a_roll_file_has_to_quote(self):
         people = [self.tool.roll_of(f"Developers: 1\nCurrent: 1\nD: {line}\n")[0] for line in (

@@ -38,14 +38,14 @@ REFUSED = {
     "d6": "it is late, since votes were taken until 2026-01-22T00:00:00Z",
 }
 ADVICE = [
-    "    --received-by HOST names the server that tells the time. Or ask the voter which ballot counts, and do what",
-    "    stands below it. The next run shows it again, until it was entered or taken out of FOLDER.",
+    "    Ask the voter which ballot counts, and then do what the table says below it. The next run shows it again,",
+    "    until it was entered or taken out of FOLDER.",
 ]
 NO_NAME = "its name is no login with .txt, .eml or .mbox after it"
 STRAYS = f"""\
 Resolution 1: Red
 
-No voter's, and left out: 7 names in FOLDER
+Left out, and why: 7 names in FOLDER
     nobody.txt: nobody on the roll has this login; a form is filled in there
     A b.txt: {NO_NAME}
     README: {NO_NAME}
@@ -66,13 +66,13 @@ FIRST_TEXTS = (
     DOUBLED,
     "Refused: 2 ballots",
     "Not sent: this developer is retired on the roll; it is taken once the roll says current: 1 ballot d9, The Name",
-    "Not sent, since a later ballot of the same voter is there: 1",
+    "Not sent: a later ballot of the same voter counts: 1",
     "later than the machine's clock: 1 ballot",
     "7 votes of 7 entered, 0 refused; in JOURNAL as v1 to v7, in the order of the table",
     "Without an answer: d8, The Name of 8: not sent: nothing says which ballot of this voter is the last one d9, The"
     " Name of 9: not sent: this developer is retired on the roll; it is taken once the roll says current d12, The Name",
     "9 mails written",
-    f"warning: for 2 mails the time of the file is taken, and not the field Received: none of {HOST} with a date is",
+    f"warning: the time of the file counts for 2 mails, and not the field Received: none of {HOST} with a date is",
 )
 MORE = "; gr-desk votes --help says more"
 
@@ -127,7 +127,7 @@ def second_table(vote):
     d8, The Name of 8: {came}/d8.mbox, mail {number}
         arrived 2026-01-15T01:00:00Z, by the field Received; unsigned; From: voter@example.net
         {DOUBLED}
-        once the voter was asked, take it out of its mbox; or type this, and its ranks and its token in a line each:
+        ask the voter, and then take it out of its mbox; or type this line, then the ranks and the token in a line each:
             {line} login=d8
 """ for number in (1, 2))
     return f"""\
@@ -146,12 +146,12 @@ Not sent: this developer is retired on the roll; it is taken once the roll says 
     d9, The Name of 9: {came}/d9.txt
         arrived 2026-01-15T01:00:00Z, by the time of its file; unsigned
 
-No vote was to be sent
+There was no vote to send
 Without an answer:
     d8, The Name of 8: not sent: nothing says which ballot of this voter is the last one
     d9, The Name of 9: not sent: this developer is retired on the roll; it is taken once the roll says current
     d12, The Name of 12: not sent: its time is later than the machine's clock
-7 names in FOLDER left out, as the table says at its top
+7 names in FOLDER left out: see the top of the table
 """
 
 
@@ -282,7 +282,7 @@ class Entered(Case):
         for path in vote.outbox.glob("d1.*"):
             path.unlink()
         vote.reports("a run with later ballots", "To be sent: 1 ballot d1, The Name of 1:", "votes again",
-                  "Not sent, since a later ballot of the same voter is there: 1 ballot d2, The Name of 2",
+                  "Not sent: a later ballot of the same voter counts: 1 ballot d2, The Name of 2",
                   "1 vote of 1 entered")
         found = vote.ballots()
         self.assertEqual((found["d1"][0], found["d1"][2], found["d2"][0]), ("3-1", 2, "21-"))
@@ -294,9 +294,9 @@ class Entered(Case):
         vote.came.mail("d1", mail_of(vote.came.filled("3-1"), 101, CALLED + DAY), CALLED)
         hold = "--desk", vote.desk.file, "--journal", vote.journal, "--at", ENDED - HOUR, "--hold", "2h"
         tool("act", *hold, "developer", "login=d99", "name=X", "status=current")
-        before = vote.kept()
-        vote.reports("a run with a held act", "nothing was sent: acts are held, 1, and would be lost")
-        self.assertEqual(vote.kept(), before)
+        before = vote.kept_options()
+        vote.reports("a run with a held act", "nothing was sent: acts are on hold, 1, and would be lost")
+        self.assertEqual(vote.kept_options(), before)
         self.assertEqual(tool("journal", "drop", "--journal", vote.journal, "1").status, 0)
         vote.reports("a run after the held act was dropped", "1 vote of 1 entered")
 
@@ -306,8 +306,8 @@ class Entered(Case):
         vote.came.text("d12", vote.came.filled("123"), ENDED - HOUR)
         before = vote.ballots()
         vote.reports("a run past the end",
-                  "it arrived in time, and by the desk's clock it could only be entered past the end: 1 ballot",
-                  "d12, The Name of 12: not sent: it arrived in time, and by the desk's clock it could only be entered")
+                  "it arrived in time, but could only be entered after the end of the vote: 1 ballot",
+                  "d12, The Name of 12: not sent: it arrived in time, but could only be entered after the")
         self.assertEqual(vote.ballots(), before)
 
     def test_a_ballot_of_a_developer_who_was_retired_is_sent_once_the_roll_says_current(self):
@@ -337,17 +337,17 @@ class Entered(Case):
             form = f"login=x{number}&name=X&status=retired"
             once(vote.desk.file, CALLED + DAY, "/developers", form, f"ok {number + 1}")
         self.assertEqual(accepted_of(vote.desk.file), count)
-        before = vote.kept()
-        vote.reports("a run over a desk that was put back", "nothing was sent: ", " has no ballot of 7 voters, and ",
-                     "gr-desk journal check says in what the two differ")
-        self.assertEqual(vote.kept(), before)
+        before = vote.kept_options()
+        vote.reports("a run over a desk that was put back", "nothing was sent: ", " lacks the ballot of 7 voters that ",
+                     "gr-desk journal check shows how the two differ")
+        self.assertEqual(vote.kept_options(), before)
 
     def test_nothing_is_sent_after_the_close(self):
         vote = self.vote.copied(self.folder())
         vote.desk.enter(ENDED, ("/resolutions/1/close", "", ""))
-        before = vote.kept()
+        before = vote.kept_options()
         vote.reports("a run after the close", "nothing was sent: resolution 1 is closed")
-        self.assertEqual(vote.kept(), before)
+        self.assertEqual(vote.kept_options(), before)
 
 
 class NotEntered(Case):
@@ -375,13 +375,13 @@ class NotEntered(Case):
             ([file, 1], 2, f"the name of FOLDER is missing{MORE}"),
             ([file, 1, place, "x"], 2, f"there is a word too many: 'x'{MORE}"),
             ([1, place], 2, NO_ADDRESS),
-            (["--domain", "a b", file, 1, place], 2, "a DOMAIN is as example.org, and not 'a b'"),
+            (["--domain", "a b", file, 1, place], 2, "a DOMAIN is a name like example.org, and not 'a b'"),
             ([file, 1, work / "none"], 3, f"{work}/none is no folder"),
             ([file, 2, place], 1, "resolution 2 is under discussion, and has no ballot before it is called"),
             (["--outbox", open_box, file, 1, place], 1,
-             f"nothing was done: other accounts may enter {open_box}, which tells who voted how: chmod 700 it"),
+             f"nothing was done: other accounts may enter {open_box}, which shows who voted how: chmod 700 it"),
             (["--outbox", full_box, file, 1, place], 1,
-             f"nothing was done: {full_box} is no outbox, and is not empty"),
+             f"nothing was done: {full_box} is not empty, and is not an outbox: name a new folder"),
         ]
         for words, status, text in lines:
             with self.subTest(words=words):
@@ -412,9 +412,9 @@ class NotEntered(Case):
         def enter():
             vote.desk.enter(CALLED + 2 * DAY, ("/developers", "login=late&name=L&status=retired", ""))
 
-        told = f"nothing was sent: {vote.desk.file} has got acts since the table was made; nothing is lost: run this "
-        told += "again"
-        self.answer_at_a_terminal(vote, b"y\n", told.encode(), meanwhile=enter)
+        message = f"nothing was sent: {vote.desk.file} got acts after the table was made. Nothing is lost: run this "
+        message += "again"
+        self.answer_at_a_terminal(vote, b"y\n", message.encode(), meanwhile=enter)
         self.assertEqual((len(vote.ballots()), list(vote.outbox.glob("*.eml"))), (0, []))
         self.assertEqual(copies_of(vote), [])
         vote.reports("the next run", "5 votes of 5 entered")
@@ -422,10 +422,10 @@ class NotEntered(Case):
     def test_a_host_that_received_none_of_the_mails_is_taken_for_misspelt(self):
         vote = self.vote.copied(self.folder())
         ran = vote.run("--received-by", "vote.exmaple.org")
-        told = "nothing was sent: no mail was received by vote.exmaple.org, but 1 mail by"
-        told = f"{told} {HOST} ({vote.came.place}/d5.eml)"
+        message = "nothing was sent: no mail was received by vote.exmaple.org, but 1 mail by"
+        message = f"{message} {HOST} ({vote.came.place}/d5.eml)"
         self.assertEqual(ran.out, b"")
-        says("a run with a host that is misspelt", ran, 1, f"{told}: say which of these hosts is yours")
+        says("a run with a host that is misspelt", ran, 1, f"{message}: name your own server by --received-by")
         self.assertEqual((len(vote.ballots()), vote.outbox.exists(), vote.journal.read_bytes()), (0, False, b""))
 
     def test_the_hosts_that_most_mails_name_are_reported_and_move_nothing(self):
@@ -453,7 +453,7 @@ class NotEntered(Case):
         says("a run on a full disk", ran, 3, "4 votes of 4 entered, 0 refused", "Without an answer: d3, The Name of 3",
              "Not every answer was written: run this again",
              f"{vote.outbox}/d1.eml: No space left on device")
-        vote.reports("a run with room on the disk", "No vote was to be sent", "4 mails written")
+        vote.reports("a run with room on the disk", "There was no vote to send", "4 mails written")
 
     def answer_at_a_terminal(self, vote, answer, text, meanwhile=lambda: None):
         """Runs the tool at a terminal, which asks, gets this answer after what is done meanwhile, and then shows this
@@ -472,7 +472,7 @@ class NotEntered(Case):
             meanwhile()
             os.write(terminal, answer)
             shown += shown_until(terminal, text)
-            self.assertIn(b"for 1 mail the time of the file is taken, and not the field Received", shown)
+            self.assertIn(b"the time of the file counts for 1 mail, and not the field Received", shown)
             while read_terminal(terminal):
                 pass
         finally:

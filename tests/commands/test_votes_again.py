@@ -34,7 +34,7 @@ class Again(Case):
         came.mail("d4", mail_of(came.filled("9--", "tokenA04"), 4), CALLED + HOUR)
         came.text("d5", came.form, CALLED + HOUR)
         cls.entered = VotingFolder(desk, came)
-        cls.entered.reports("a run", "4 votes of 4 entered", "5 mails written", "Not sent, since a later ballot")
+        cls.entered.reports("a run", "4 votes of 4 entered", "5 mails written", "Not sent: a later ballot")
 
     def setUp(self):
         self.vote = self.entered.copied(self.folder())
@@ -48,17 +48,28 @@ class Again(Case):
         ran = self.vote.run("--outbox", self.vote.outbox, place=self.copied_without_times())
         says("a run over a copy with other times", ran, 1,
              "Answered before: 6 ballots, 4 entered, 1 refused, 1 replaced;",
-             f"{MOVED} 4 ballots; that of the journal counts",
-             "No vote was to be sent Every voter has an answer", " 0 mails written")
+             f"{MOVED} 5 ballots; the time in the journal counts",
+             "There was no vote to send Every voter has an answer", " 0 mails written")
         self.assertEqual(self.vote.kept(), before)
 
-    def test_of_such_a_folder_with_another_outbox_what_is_unsure_is_not_sent(self):
+    def test_of_such_a_folder_with_another_outbox_the_journal_knows_which_ballot_was_replaced(self):
         before = self.vote.kept()
         ran = self.vote.run("--outbox", self.vote.work / "new_outbox", place=self.copied_without_times())
         says("a run with another outbox", ran, 1,
-             f"{MOVED} 4 ballots; that of the journal counts",
-             f"{UNDECIDED} 1 ballot --received-by HOST names",
-             "a file of this voter's has another time than it had before", "No vote was to be sent",
+             f"{MOVED} 5 ballots; the time in the journal counts",
+             "Not sent: a later ballot of the same voter counts: 1 ballot d3, The Name of 3:",
+             "There was no vote to send Every voter has an answer", " 5 mails written")
+        self.assertEqual(self.vote.kept(), before)
+
+    def test_of_such_a_folder_and_a_journal_of_an_earlier_version_what_is_unsure_is_not_sent(self):
+        self.vote.forget_replaced()
+        before = self.vote.kept()
+        ran = self.vote.run("--outbox", self.vote.work / "new_outbox", place=self.copied_without_times())
+        says("a run without a host", ran, 1, "If your own server received these mails, name it by --received-by HOST: ")
+        says("a run with another outbox", ran, 1,
+             f"{MOVED} 4 ballots; the time in the journal counts",
+             f"{UNDECIDED} 1 ballot Ask the voter which ballot counts,",
+             "a file of this voter has another time than before", "There was no vote to send",
              "Without an answer: d3, The Name of 3: not sent", " 5 mails written")
         self.assertEqual(self.vote.kept(), before)
 
@@ -68,8 +79,8 @@ class Again(Case):
         self.came.mail("d2", mail_of(self.came.filled("111"), 2), CALLED + 6 * HOUR)
         self.came.mail("d4", mail_of(self.came.filled("9--", "tokenA04"), 41), CALLED + 7 * HOUR)
         self.vote.reports("a run with what is the same",
-                          f"{UNDECIDED} 1 ballot --received-by HOST names",
-                          f"d2, The Name of 2: {self.came.place}/d2.eml", SAME_ID, "No vote was to be sent",
+                          f"{UNDECIDED} 1 ballot Ask the voter which ballot counts,",
+                          f"d2, The Name of 2: {self.came.place}/d2.eml", SAME_ID, "There was no vote to send",
                           "Without an answer: d2, The Name of 2: not sent:",
                           " 1 mail written")
         self.assertEqual(self.vote.kept(), before)
@@ -88,7 +99,7 @@ class Again(Case):
         self.came.mbox("d6", *earlier, at=CALLED + HOUR)
         self.came.text("d2", self.came.filled("1--"), CALLED + 2 * HOUR)
         self.vote.reports("a run with two at one moment", f"{UNDECIDED} 3 ballots", SAME_MOMENT,
-                          "Not sent, since a later ballot of the same voter is there: 3 ballots", "1 vote of 1 entered",
+                          "Not sent: a later ballot of the same voter counts: 3 ballots", "1 vote of 1 entered",
                           "Without an answer: d2, The Name of 2: not sent: nothing says which ballot of this voter is"
                           " the last one d6, The Name of 6: not sent")
         found = self.vote.ballots()
@@ -98,7 +109,7 @@ class Again(Case):
         self.came.text("d6", self.came.filled("123"), CALLED + 8 * HOUR)
         self.came.mail("d6", mail_of(self.came.filled("321"), 6), CALLED + 8 * HOUR)
         self.came.text("d2", self.came.filled("1--"), CALLED + 2 * HOUR)
-        self.vote.reports("a run with two at one moment", f"{UNDECIDED} 3 ballots", "No vote was to be sent")
+        self.vote.reports("a run with two at one moment", f"{UNDECIDED} 3 ballots", "There was no vote to send")
         (self.came.place / "d6.txt").unlink()
         self.vote.reports("a run where one of the two is taken out", "1 vote of 1 entered", f"{UNDECIDED} 1 ballot")
         self.assertEqual(self.vote.ballots()["d6"][0], "321")
@@ -120,19 +131,41 @@ class Again(Case):
         self.vote.reports("a run with other ranks", "1 vote of 1 entered", "votes again")
         before = self.vote.kept()
         self.came.mail("d3", mail_of(self.came.filled("321"), 34), CALLED + 10 * HOUR)
-        self.vote.reports("a run with ranks of before", "No vote was to be sent", f"{UNDECIDED} 1 ballot",
+        self.vote.reports("a run with ranks of before", "There was no vote to send", f"{UNDECIDED} 1 ballot",
                           f"d3, The Name of 3: {self.came.place}/d3.eml",
                           "it has the ranks of the ballot that arrived 2026-01-15T00:05:21Z, before the last one")
         self.assertEqual(self.vote.kept(), before)
+
+    def test_the_text_of_a_ballot_that_was_replaced_before_it_was_sent_is_undecided_under_another_message_id(self):
+        [line] = self.vote.lines("replaced")
+        self.assertEqual((line["resolution"], line["login"], line["ranks"], line["token"]), (1, "d3", "123", None))
+        self.assertEqual((line["source"]["message_id"], line["source"]["arrived"]), ("<123@example.net>", CALLED + 123))
+        self.assertEqual(json.loads(self.vote.journal.read_text().splitlines()[0]), line, "before all acts")
+        shutil.rmtree(self.came.place / "d3")
+        self.came.mail("d3", mail_of(self.came.filled("123"), 33), CALLED + 9 * HOUR)
+        before = self.vote.kept()
+        self.vote.reports("a run with the first text", "There was no vote to send", f"{UNDECIDED} 1 ballot",
+                          f"d3, The Name of 3: {self.came.place}/d3.eml",
+                          "it has the ranks of the ballot that arrived 2026-01-15T00:02:03Z, before the last one",
+                          "Without an answer: d3, The Name of 3: not sent")
+        self.assertEqual(self.vote.kept(), before)
+
+    def test_a_ballot_that_is_replaced_when_nothing_is_sent_is_kept_once(self):
+        self.came.mail("d2", mail_of(self.came.filled("1--"), 22), CALLED + 2 * HOUR - 60)
+        before = self.vote.ballots()
+        for _ in range(2):
+            self.vote.reports("a run with an earlier ballot", "There was no vote to send", "Every voter has an answer")
+        self.assertEqual([line["login"] for line in self.vote.lines("replaced")], ["d3", "d2"])
+        self.assertEqual(self.vote.ballots(), before)
 
     def test_a_text_that_was_entered_before_another_one_is_not_sent_again_and_is_reported(self):
         self.came.text("d1", self.came.filled("3--"), CALLED + 11 * HOUR)
         self.vote.reports("a run with another text", "1 vote of 1 entered")
         before = self.vote.kept()
         self.came.text("d1", self.came.filled("12-"), CALLED + 12 * HOUR)
-        self.vote.reports("a run with the first text", "No vote was to be sent",
-                          f"{MOVED} 1 ballot; that of the journal counts d1, The Name of 1: {self.came.place}/d1.txt:"
-                          " a later one was entered; where this was sent again, gr-desk act vote enters it")
+        self.vote.reports("a run with the first text", "There was no vote to send",
+                          f"{MOVED} 1 ballot; the time in the journal counts d1, The Name of 1: "
+                          f"{self.came.place}/d1.txt: a later one was entered; if the voter sent this one again since")
         self.assertEqual(self.vote.kept(), before)
 
     def test_a_vote_without_a_kept_answer_is_not_taken_for_an_earlier_one_with_the_same_token(self):
@@ -160,13 +193,13 @@ class Again(Case):
                 words = "--desk", vote.desk.file, "--journal", vote.journal, "--at", at, "--source", source
                 with open(given, "rb") as stream:
                     self.assertEqual(tool("act", *words, "vote", 1, "login=d7", stdin=stream).status, 0)
-                before = vote.kept()
-                vote.reports(f"a run after an act from {source}", "No vote was to be sent", SAME_ID,
+                before = vote.kept_options()
+                vote.reports(f"a run after an act from {source}", "There was no vote to send", SAME_ID,
                              f"d7, The Name of 7: {vote.came.place}/d7.eml arrived ")
-                self.assertEqual(vote.kept(), before)
+                self.assertEqual(vote.kept_options(), before)
 
     def test_ballots_that_another_journal_does_not_have_are_warned_of(self):
         other = self.vote.work / "other"
         ran = self.vote.run("--outbox", self.vote.work / "other_outbox", journal=other)
         says("a run with another journal", ran, 1, "; votes again",
-             f"warning: the desk has a ballot of 4 voters that {other} does not have, and what is sent replaces it")
+             f"warning: the desk has a ballot of 4 voters that {other} lacks, and this run replaces it")

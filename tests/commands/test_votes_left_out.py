@@ -44,13 +44,16 @@ def answer_to(form):
 
 class Handler(BaseHTTPRequestHandler):
     def do_GET(self):
-        self.answer(STATUS if self.path.startswith("/status/") else ROLL)
+        if self.path.startswith("/status/") and self.path != "/status/1":
+            self.answer("refused 9 NoResolution\n", 409)
+        else:
+            self.answer(STATUS if self.path == "/status/1" else ROLL)
 
     def do_POST(self):
         self.answer(answer_to(self.rfile.read(int(self.headers["Content-Length"])).decode()))
 
-    def answer(self, text):
-        self.send_response(200)
+    def answer(self, text, status=200):
+        self.send_response(status)
         self.send_header("Content-Length", str(len(text)))
         self.end_headers()
         self.wfile.write(text.encode())
@@ -94,4 +97,4 @@ class LeftOut(Case):
     def test_with_every_ballot_entered_and_a_name_left_out_the_status_is_1(self):
         ran = self.run_with("d01.txt")
         says("a run with a name left out", ran, 1, "1 vote of 1 entered, 0 refused", "Every voter has an answer",
-             "No voter's, and left out: 1 name in FOLDER", "1 name in FOLDER left out, as the table says at its top")
+             "Left out, and why: 1 name in FOLDER", "1 name in FOLDER left out: see the top of the table")

@@ -142,8 +142,8 @@ class StopsAtAPort(Case):
 
     def check_passing(self, name, *advice):
         ran, again = self.stopped(409, f"refused 2 {name}\n")
-        told = f"nothing more was sent: the desk refused the vote of d2 ({self.came.place}/d2.txt) for now. {name}: "
-        says("a run that is refused for now", ran, 1, told, "Nothing is lost; ", *advice,
+        message = f"nothing more was sent: the desk refused the vote of d2 ({self.came.place}/d2.txt) for now. {name}: "
+        says("a run that is refused for now", ran, 1, message, "Nothing is lost; ", *advice,
              "1 vote of 3 entered, 0 refused",
              "Without an answer: d2, The Name of 2: refused for now, and sent again by the next run"
              " d3, The Name of 3: to be sent", "1 mail written")
@@ -171,14 +171,15 @@ class StopsAtAPort(Case):
             with before(served.port, answered(409, "refused 22 BadRanks\n")) as port:
                 says("a run with a final refusal", self.run_at(port), 1, "2 votes of 3 entered, 1 refused",
                      "Every voter has an answer", "3 mails written")
-            says("the next run", self.run_at(served.port), 1, "No vote was to be sent", " 0 mails written")
+            says("the next run", self.run_at(served.port), 1, "There was no vote to send", " 0 mails written")
         [(_, text)] = answers_in(self.outbox)["d2"]
         self.assertIn("was not entered: the ranks are a character", " ".join(text.split()))
 
     def test_after_a_fault_nothing_more_is_sent(self):
         ran, again = self.stopped(503, "fault F2 Store\n")
-        says("a run that meets a fault", ran, 3, "the desk failed, by fault F2 Store; say the same again",
-             "1 vote of 3 entered", "Without an answer: d2")
+        message = f"the desk failed at the vote of d2 ({self.came.place}/d2.txt), by fault F2 Store; run this again. "
+        says("a run that meets a fault", ran, 3, f"{message}Nothing is lost", "1 vote of 3 entered",
+             "Without an answer: d2")
         says("the next run", again, 0, "To be sent again, with the same token: 1 ballot", "2 votes of 2 entered")
         self.check_entered(times=1)
 
@@ -260,7 +261,7 @@ class ManyVotes(Case):
     def test_a_second_run_sends_nothing_and_prints_a_line_for_each_refused_form_and_six_more(self):
         ran = self.run_tool()
         known = f"Answered before: {BALLOTS} ballots, {len(self.taken)} entered, {len(self.refused)} refused, 0"
-        says("the second run", ran, 1, known, "No vote was to be sent", " 0 mails written")
+        says("the second run", ran, 1, known, "There was no vote to send", " 0 mails written")
         self.assertEqual(len(ran.out.splitlines()), len(self.refused) + 6)
 
     def test_each_voter_whose_form_is_refused_gets_the_reason(self):

@@ -2,6 +2,7 @@
 rename and start of a program, after half of each write to a file, and while a program that was started goes on alone.
 The next run goes on: the desk has each of the five ballots once, and each voter has a mail with a receipt that is
 there."""
+import json
 import os
 import shutil
 import signal
@@ -80,7 +81,11 @@ class VotesStops(Case):
         return ran.returncode, (place / "record").read_bytes().rstrip(b"\0").decode()
 
     def check_entered(self, place):
-        """The desk has each ballot once, and each voter has a mail with its receipt."""
+        """The desk has each ballot once, each voter has a mail with its receipt, and the journal has the ballot that
+        was replaced once."""
+        lines = map(json.loads, (place / "journal").read_text().splitlines())
+        replaced = [(line["login"], line["ranks"]) for line in lines if line["line"] == "replaced"]
+        self.assertEqual(replaced, [("d4", "111")])
         found = ballots_in(place / "desk.db")
         self.assertEqual({login: row[0] for login, row in found.items()}, RANKS)
         self.assertEqual({row[2] for row in found.values()}, {1})

@@ -71,7 +71,7 @@ class Undecided(Case):
         ran = run_line(line, [ranks, token])
         self.assertEqual((ran.status, ran.out[:3]), (0, b"ok "), ran)
         self.assertEqual(self.vote.ballots()[login], (ranks, receipt(1, login, token), times))
-        says("the run after it", self.vote.run(), status, "No vote was to be sent", " 1 mail written")
+        says("the run after it", self.vote.run(), status, "There was no vote to send", " 1 mail written")
         receipts = [receipt_in(text)[0] for _, text in answers_in(self.vote.outbox)[login]]
         self.assertIn(receipt(1, login, token), receipts)
 
@@ -90,7 +90,8 @@ class Undecided(Case):
         self.came.text("d3", self.came.filled("1-2", "tokenC05"), CALLED + 7 * HOUR)
         before = self.vote.kept()
         ran = self.vote.run()
-        says("a run with the first text", ran, 0, "a later one was entered; where this was sent again", "or type this")
+        says("a run with the first text", ran, 0, "a later one was entered; if the voter sent this one again",
+             "or type this")
         self.assertEqual(self.vote.kept(), before)
         [line] = self.lines_in(ran)
         self.assertEqual(run_line(line, ["1-2", "tokenC05"]).status, 0)
@@ -105,7 +106,7 @@ class Undecided(Case):
     def test_the_line_of_another_text_of_a_mail_says_that_it_is_meant(self):
         self.came.mbox("d2", mail_of(self.came.filled("1-2"), 2), at=CALLED + 5 * HOUR)
         [line] = self.run_once("a run with another text", f"{UNDECIDED} 1 ballot",
-                               "once the voter was asked, take it out of its mbox; or type this")
+                               "ask the voter, and then take it out of its mbox; or type this line")
         self.assertIn(" --yes ", line)
         self.check_enters(line, "d2", "1-2", "tokenC02", times=2, status=0)
 
@@ -159,7 +160,7 @@ class Undecided(Case):
         self.came.mail("d1", mail_of(self.came.filled("123"), 12), CALLED + 4 * HOUR)
         self.vote.desk.enter(CALLED + 7 * DAY, ("/developers", "login=late&name=L&status=retired", ""))
         lines = self.run_once("a run past the end", f"{UNDECIDED} 1 ballot",
-                              "it can only be entered past the end of the vote; once the voter was asked, move its")
+                              "it can only be entered past the end of the vote: ask the voter, and then move its")
         self.assertEqual(lines, [])
 
 
@@ -187,8 +188,8 @@ class GivenUp(Case):
     def test_a_vote_that_is_gone_has_no_answer_and_the_line_enters_it_again(self):
         ran = self.vote.run()
         says("a run after the restore", ran, 1,
-             f"Not sent again: it was entered, and taken out of the desk later: 1 ballot d1, The Name of 1: {self.last}",
-             "No vote was to be sent",
+             f"Not sent again: it was entered, but the desk no longer has it: 1 ballot d1, The Name of 1: {self.last}",
+             "There was no vote to send",
              "Without an answer: d1, The Name of 1: not sent again: it was entered")
         self.assertEqual(sorted(self.vote.ballots()), ["d2"])
         [line] = re.findall("^ +(gr-desk act .*)$", ran.out.decode(), re.M)
@@ -200,13 +201,13 @@ class GivenUp(Case):
         self.last.unlink()
         self.vote.came.mail("d1", mail_of(self.vote.came.filled("123"), 1), CALLED + 2 * HOUR)
         self.vote.reports("a run with an earlier ballot", "To be sent: 1 ballot d1", "1 vote of 1 entered",
-                          "Without an answer: d1, The Name of 1: not sent again: it was entered, and taken out")
+                          "Without an answer: d1, The Name of 1: not sent again: it was entered, but the desk no")
         self.assertEqual(self.vote.ballots()["d1"][0], "123")
 
     def test_its_voter_has_no_answer_also_if_no_mail_is_there(self):
         self.last.unlink()
-        self.vote.reports("a run without its mail", "No vote was to be sent",
-                          "Without an answer: d1, The Name of 1: not sent again: it was entered, and taken out")
+        self.vote.reports("a run without its mail", "There was no vote to send",
+                          "Without an answer: d1, The Name of 1: not sent again: it was entered, but the desk no")
 
 
 class UndecidedByAPort(Case):
@@ -217,7 +218,7 @@ class UndecidedByAPort(Case):
         came.mbox("d1", *(mail_of(came.filled(ranks), 8) for ranks in ("123", "321")), at=now - HOUR)
         with serve(desk.file, 99) as served:
             ran = votes("--port", served.port, 1, came.place, journal=work / "journal")
-            says("a run with two texts of one mail", ran, 1, f"{UNDECIDED} 2 ballots", "No vote was to be sent")
+            says("a run with two texts of one mail", ran, 1, f"{UNDECIDED} 2 ballots", "There was no vote to send")
             line = re.search("^ +(gr-desk act .*)$", ran.out.decode(), re.M)[1]
             self.assertIn(f" --port={served.port} ", line)
             self.assertEqual(run_line(line, ["321", "tokenA01"]).status, 0)

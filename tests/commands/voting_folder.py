@@ -38,8 +38,16 @@ class VotingFolder:
 
     def acts(self):
         """The lines of the acts that the journal has."""
-        lines = map(json.loads, self.journal.read_text().splitlines())
-        return [line for line in lines if line["line"] == "act"]
+        return self.lines("act")
+
+    def lines(self, kind):
+        """The lines of this kind that the journal has."""
+        return [line for line in map(json.loads, self.journal.read_text().splitlines()) if line["line"] == kind]
+
+    def forget_replaced(self):
+        """Makes the journal one of a version that kept no ballot which was replaced before it was sent."""
+        lines = self.journal.read_text().splitlines(keepends=True)
+        self.journal.write_text("".join(line for line in lines if json.loads(line)["line"] != "replaced"))
 
     def kept(self):
         """What the desk and the journal have."""

@@ -12,8 +12,8 @@ from tests.support.case import Case
 from tests.support.program import TOP
 
 sys.path.insert(0, str(TOP / "tools"))
+from grdesk.error import Refused  # noqa: E402
 from grdesk.new_file import Folder, Readers, check_shared, check_unshared, make_folder, new_file  # noqa: E402
-from grdesk.stop import Refused  # noqa: E402
 
 TEXT, SECRET = b"for all\n", b"the ballots\n"
 TOLD, WHY = "nothing was written", "where all is published"
@@ -98,6 +98,12 @@ class NewFiles(Case):
             with self.subTest(name=name), self.assertRaises(OSError) as raised:
                 Folder(f"{self.work}/{name}")
             self.assertEqual(raised.exception.filename, f"{self.work}/{name}")
+            self.assertEqual(raised.exception.strerror, "it is a link, and no link is followed: name the folder itself")
+
+    def test_what_is_no_folder_is_not_called_a_link(self):
+        with self.assertRaises(NotADirectoryError) as raised:
+            Folder(str(self.secret))
+        self.assertEqual(raised.exception.strerror, "Not a directory")
 
     def test_a_folder_that_is_moved_away_gets_the_file_and_not_what_has_its_name(self):
         with Folder(str(self.place)) as folder:

@@ -15,8 +15,8 @@ from grdesk.ballots.arrival import Arrival, By  # noqa: E402
 from grdesk.ballots.mail import Mail  # noqa: E402
 from grdesk.desk import copy as copies, digest  # noqa: E402
 from grdesk.desk.request import MOST_BYTES  # noqa: E402
+from grdesk.error import Failed, Refused  # noqa: E402
 from grdesk.journal import journal  # noqa: E402
-from grdesk.stop import Failed, Refused  # noqa: E402
 
 # How long something may take that waits for nothing, in seconds.
 SOON = 30
@@ -127,7 +127,7 @@ class TimesOfFiles(Case):
         received = b"Received: by a; x\n"
         contents = {"d1.eml": received + b"From: a@b\n\nx\n", "d2.txt": b"\n" + received, "d3.txt": b"x\n"}
         arrivals = [Arrival(name[:2], Mail(name, content, 1), 1, By.FILE) for name, content in contents.items()]
-        batch = SimpleNamespace(ballots=[SimpleNamespace(arrival=each, is_told=False) for each in arrivals])
+        batch = SimpleNamespace(ballots=[SimpleNamespace(arrival=each, is_reported=False) for each in arrivals])
         with said() as text:
             loaded("votes").warn_of_times(batch, "vote.example.org")
             named = [line.rpartition(" ")[2] for line in text.lines()]

@@ -11,7 +11,7 @@ from tests.support.program import TOP
 PACKAGE = TOP / "tools" / "grdesk"
 # The rooms and the modules beside them, the lowest first.
 ORDER = [
-    *["stop", "inventory", "output", "dates", "interruption", "parser", "new_file", "regular_file"],
+    *["error", "inventory", "output", "dates", "interruption", "parser", "new_file", "regular_file", "mail_head"],
     *["desk", "acts", "journal", "ballots", "web", "package", "commands", "cli"],
 ]
 # Debian runs these, and asks for the mode.
@@ -72,7 +72,7 @@ class Rooms(Case):
         for name in commands:
             with self.subTest(command=name):
                 defined = {node.name for node in self.modules[name].body if isinstance(node, ast.FunctionDef)}
-                self.assertEqual({"reader", "run"} - defined, set())
+                self.assertEqual({"parser", "run"} - defined, set())
 
     def test_no_name_of_a_module_stands_twice(self):
         """A command has the name by which it is called, also if that is what a room is about."""

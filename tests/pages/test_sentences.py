@@ -61,9 +61,9 @@ class Sentences(Case):
                 found = [sentence for piece in pieces(path.read_text()) for sentence in sentences(piece)]
                 self.assertTrue(found)
                 long = sorted(((words, line) for line, words in found if words > MOST_WORDS), reverse=True)
-                told = [f"{len(long)} of {len(found)} sentences have more than {MOST_WORDS} words"]
-                told += [f"line {line}: {words} words" for words, line in long]
-                self.assertLessEqual(len(long) * ONE_IN, len(found), "\n".join(told))
+                message = [f"{len(long)} of {len(found)} sentences have more than {MOST_WORDS} words"]
+                message += [f"line {line}: {words} words" for words, line in long]
+                self.assertLessEqual(len(long) * ONE_IN, len(found), "\n".join(message))
 
     def test_sentences_are_told_apart(self):
         page = "A heading of five words here\n\n- One item has words. It has `code. With` two.\n"

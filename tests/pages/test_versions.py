@@ -51,7 +51,7 @@ class Versions(Case):
     def test_the_toolchain_of_this_machine_proves_in_the_logic_that_the_first_page_names(self):
         """Builds of a kit differ that have the same logic."""
         if not shutil.which("rt"):
-            self.skipTest("there is no `rt` to name the toolchain")
+            self.skipTest("rt, of the toolchain, is not installed")
         here = runs(["rt", "version"])
         self.assertEqual(here.status, 0)
         [named] = toolchains((TOP / "README.md").read_text())

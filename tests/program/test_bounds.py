@@ -130,7 +130,7 @@ class Memory(Bounds):
         self.holds(figure, 540, "bytes of memory for a ballot, by migrate")
 
 
-@unittest.skipUnless(shutil.which("valgrind"), "there is no valgrind, so no instructions are counted")
+@unittest.skipUnless(shutil.which("valgrind"), "valgrind is not installed")
 class Instructions(Bounds):
     """What a ballot adds to a line. What it adds to a result, and to a vote, is beyond what it adds to the status of
     the same desk."""

@@ -12,7 +12,7 @@ from tests.support.case import Case
 from tests.support.program import T0, Ran, copy_desk, expect, free_port, make_desk, once, run, runs, serve
 
 COMMAND = shutil.which("sqlite3")
-needs_the_command = unittest.skipUnless(COMMAND, "there is no command sqlite3")
+needs_the_command = unittest.skipUnless(COMMAND, "sqlite3 is not installed")
 NEW = "name=A+Name&status=current"
 NOTHING = Ran(0, b"", b"")
 

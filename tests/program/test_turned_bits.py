@@ -22,7 +22,7 @@ sys.path.insert(0, str(TOP / "tools"))
 from grdesk.desk.copy import copied_again, log_of  # noqa: E402
 from grdesk.desk.program import program  # noqa: E402
 from grdesk.desk.row import rows_in  # noqa: E402
-from grdesk.stop import Failed  # noqa: E402
+from grdesk.error import Failed  # noqa: E402
 
 # How many bits are turned in the file of each of the two desks, and in a log of each.
 BITS, OF_A_LOG = 2_000, 100

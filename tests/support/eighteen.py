@@ -1,5 +1,5 @@
-"""The script of eighteen commands (docs/examples.md, "A whole vote"): a vote from the first developer to the casting vote.
-"""
+"""The script of eighteen commands (docs/examples.md, "A whole vote"): a vote from the first developer to the casting
+vote."""
 from tests.support.program import DAY, T0
 
 CALLED, CLOSED = T0 + 14 * DAY, T0 + 21 * DAY

@@ -75,12 +75,12 @@ class Lead:
     def refused(self, at, act, answer):
         """Holds the sentences of a refusal against the desk. Gives them."""
         status, line = answer
-        told = list(explanation.sentences(self.desk.case(at, act), status, line))
+        message = list(explanation.sentences(self.desk.case(at, act), status, line))
         name = name_of(line)
-        expect(f"what {name} means", told[0], f"{name}: {MEANINGS[name]}")
-        PROMISES[name](self.desk, at, act, "\n".join(told[1:]))
+        expect(f"what {name} means", message[0], f"{name}: {MEANINGS[name]}")
+        PROMISES[name](self.desk, at, act, "\n".join(message[1:]))
         self.met[name] += 1
-        return told
+        return message
 
     def accepted(self, at, act, line, before):
         """Holds the sentences of an act that was accepted against the desk."""
@@ -90,65 +90,65 @@ class Lead:
             of_the_choice = [each for each in sentences if each.startswith("choice ")]
             self.given(at, act, "\n".join(of_the_choice), before)
             sentences = [each for each in sentences if each not in of_the_choice]
-        told = "\n".join(sentences)
+        message = "\n".join(sentences)
         if name == "call":
-            self.called(act, line, told)
+            self.called(act, line, message)
         elif name in (*explanation.MOVING, "propose"):
             number = int(line.split()[-1]) if name == "propose" else number
-            self.moved(at, name, number, told, before)
+            self.moved(at, name, number, message, before)
         elif name in explanation.TAKING:
-            self.taken(at, act, told, before)
+            self.taken(at, act, message, before)
 
-    def moved(self, at, name, number, told, before):
+    def moved(self, at, name, number, message, before):
         """The end of a discussion is right by a second, and is reported where it has moved."""
         end = end_in(self.desk.case(at, (name, number, {})).status())
-        if "ends" in told:
-            expect(f"the end after {name}", found_in(told, r"ends \S+ \((\d+)\)"), [end])
+        if "ends" in message:
+            expect(f"the end after {name}", found_in(message, r"ends \S+ \((\d+)\)"), [end])
             holds(self.desk, end - 1, act_in("call", number), ("TooEarly", True))
             holds(self.desk, end, act_in("call", number), ("TooEarly", False))
             self.met["an end that moved"] += 1
-        elif "draft" in told:
+        elif "draft" in message:
             holds(self.desk, at, act_in("call", number), ("WrongStage", True))
         else:
-            expect(f"the end after {name}", (told, end), ("", end_in(before)))
+            expect(f"the end after {name}", (message, end), ("", end_in(before)))
 
-    def given(self, at, act, told, before):
+    def given(self, at, act, message, before):
         """Of a choice that was short it is said whether it still lapses, and of another one nothing."""
-        expect(f"whether {act} finds a choice that is short", bool(told), short_in(before, act) is not None)
-        if "it lapses" in told:
-            self.taken(at, act, told, before)
-        elif told:
+        expect(f"whether {act} finds a choice that is short", bool(message), short_in(before, act) is not None)
+        if "it lapses" in message:
+            self.taken(at, act, message, before)
+        elif message:
             number, choice = act[1], act[2]["choice"]
-            expect(f"what {act} has done", told, f"choice {choice} of resolution {number} is not short any more")
+            expect(f"what {act} has done", message, f"choice {choice} of resolution {number} is not short any more")
             amend = of_choice("amend", act, minor="1", summary="S", text="T")
             holds(self.desk, LATEST, amend, ("Lapsed", False))
             self.met["not short any more"] += 1
 
-    def taken(self, at, act, told, before):
+    def taken(self, at, act, message, before):
         """A choice that is said to lapse does so, at just that moment, and another one at no moment."""
         amend = of_choice("amend", act, minor="1", summary="S", text="T")
-        if "it lapses" not in told:
+        if "it lapses" not in message:
             holds(self.desk, LATEST, amend, ("Lapsed", False))
-            self.met["introduced, and not short" if "is not short" in told else "not introduced"] += 1
+            self.met["introduced, and not short" if "is not short" in message else "not introduced"] += 1
             return
-        [end] = found_in(told, r"it lapses \S+ \((\d+)\)")
+        [end] = found_in(message, r"it lapses \S+ \((\d+)\)")
         holds(self.desk, end - 1, amend, ("Lapsed", False))
         holds(self.desk, end, amend, ("Lapsed", True))
         was_short = short_in(before, act) is not None
-        expect(f"whether {act} finds a choice that is short", "is short since" in told, was_short)
+        expect(f"whether {act} finds a choice that is short", "is short since" in message, was_short)
         adopt = of_choice("adopt", act, author="@leader")
-        holds(self.desk, end - 1, adopt, ("HasProposer", "a proposer" not in told))
+        holds(self.desk, end - 1, adopt, ("HasProposer", "a proposer" not in message))
         kind = "still short" if act[0] in explanation.GIVING else "short before" if was_short else "short now"
         self.met[kind] += 1
 
-    def called(self, act, line, told):
+    def called(self, act, line, message):
         """The end of a voting is right by a second."""
         if "cancelled" in line:
-            expect("a call that cancels", "is cancelled" in told, True)
+            expect("a call that cancels", "is cancelled" in message, True)
             return
-        [end] = found_in(told, r"ends \S+ \((\d+)\)")
+        [end] = found_in(message, r"ends \S+ \((\d+)\)")
         if end > LATEST:
-            expect("a voting that never ends", "can never be closed" in told, True)
+            expect("a voting that never ends", "can never be closed" in message, True)
             return
         holds(self.desk, end - 1, act_in("close", act[1]), ("TooEarly", True))
         holds(self.desk, end, act_in("close", act[1]), ("TooEarly", False))
@@ -167,9 +167,9 @@ class Lead:
         with self.collected(f"{act} at {at}"):
             answer = self.desk.answer(self.desk.file, at, act)
             expect(f"{act} at {at}", name_of(answer[1]), name)
-            told = self.refused(at, act, answer)
+            message = self.refused(at, act, answer)
             if expected is not None:
-                expect(f"what is said of {name}", told[1:], expected)
+                expect(f"what is said of {name}", message[1:], expected)
 
 
 def led(work, lead_by, *more):
@@ -249,19 +249,19 @@ def look_at_refusal(lead, at, act, answer, is_by_tool):
     with lead.collected(f"{act} at {at}"):
         if answer[0] != 409:
             fail(f"the answer is {answer}")
-        told = lead.refused(at, act, answer)
+        message = lead.refused(at, act, answer)
         if is_by_tool:
-            look_at_tool(lead.desk, at, act, answer[1], told)
+            look_at_tool(lead.desk, at, act, answer[1], message)
 
 
-def look_at_tool(desk, at, act, line, told):
+def look_at_tool(desk, at, act, line, message):
     """gr-desk act prints the desk's line alone, and the sentences on error output."""
     name, number, values = act
     if name in ("vote", "call"):
         return
     words = [name, *([number] if number else []), *(f"{field}={text}" for field, text in values.items())]
     ran = tool("act", "--desk", desk.file, "--at", at, "--ahead", *words)
-    said = "".join(f"gr-desk act: {each}\n" for each in told).encode()
+    said = "".join(f"gr-desk act: {each}\n" for each in message).encode()
     expect(f"gr-desk act of {act}", ran, Ran(1, line.encode(), said))
 
 

@@ -7,7 +7,7 @@ sys.path.insert(0, str(TOP / "tools"))
 from grdesk.acts.situation import DeskView, Situation  # noqa: E402
 from grdesk.desk.sheet import Choice, Developer, Status  # noqa: E402
 from grdesk.journal.entry import Entry, Fate  # noqa: E402
-from grdesk.web.closed_vote import Test, Vote  # noqa: E402
+from grdesk.web.closed_vote import ClosedVote, OptionTest  # noqa: E402
 
 # A discussion of the shortest length, and a voting of a week after it.
 DISCUSSION = T0, T0 + 14 * DAY
@@ -55,7 +55,7 @@ def case(name, values=None, at=T0, of=None, people=None, rows=None, outcome=None
 
 def tested(verdict, above=0, below=0, ratio=1, quorum="met", majority="met"):
     """The test of an option, which kept or dropped it."""
-    return Test(above, below, ratio, quorum, majority, verdict)
+    return OptionTest(above, below, ratio, quorum, majority, verdict)
 
 
 def vote(options, ballots=(), tests=None, preferred=None, **changes):
@@ -64,4 +64,4 @@ def vote(options, ballots=(), tests=None, preferred=None, **changes):
     values = {"number": 1, "voting": "", "developers": 9, "rounds": {}, "outcome": [1], "last": "Winner: 1",
               "winner": 1, "received": None, **changes}
     receipts = [(ranks, "0" * 64) for ranks in ballots]
-    return Vote(options=names, ballots=receipts, tests=tests or {}, preferred=preferred or {}, **values)
+    return ClosedVote(options=names, ballots=receipts, tests=tests or {}, preferred=preferred or {}, **values)

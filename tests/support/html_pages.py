@@ -83,5 +83,6 @@ def look_at_safety(text, seen):
     digest = base64.b64encode(hashlib.sha256(style.encode()).digest()).decode()
     policy = f"default-src 'none'; style-src 'sha256-{digest}'; base-uri 'none'; form-action 'none'"
     metas = [attrs for tag, attrs, _ in seen.elements if tag == "meta"]
-    expect("the policy", metas[:2], [{"charset": "utf-8"}, {"http-equiv": "Content-Security-Policy", "content": policy}])
+    wanted = [{"charset": "utf-8"}, {"http-equiv": "Content-Security-Policy", "content": policy}]
+    expect("the policy", metas[:2], wanted)
     expect("what comes before it", [tag for tag, _, _ in seen.elements][:4], ["html", "head", "meta", "meta"])

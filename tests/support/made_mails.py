@@ -29,8 +29,8 @@ from tests.support.made_texts import (
 from tests.support.made_trees import Maker, tree_of
 
 from grdesk.ballots import mail as mails
-from grdesk.ballots.form_reader import read
-from grdesk.stop import NotRead
+from grdesk.ballots.form_reader import read_form
+from grdesk.error import NotRead
 
 # How long a mail may take, in seconds of this process.
 PATIENCE = 1.0
@@ -239,7 +239,7 @@ def outcome(mail, form):
     """The ranks, the token and whether they are signed, or the sentence of the refusal."""
     try:
         written = mail.written()
-        filled = read(form, written.text)
+        filled = read_form(form, written.text)
     except NotRead as why:
         return str(why)
     return filled.ranks, filled.token, written.is_signed

@@ -247,8 +247,9 @@ def text_leaf(luck, text, eol, kind="text/plain", is_odd=False):
 
 
 def shows_other_armour(body, content):
-    """Whether the file shows armour of a text, and not all of it as it is once the text is decoded: letters of a line or
-    of a signature are encoded, as no program writes them, or a line is broken before what is no armour of the text."""
+    """Whether the file shows armour of a text, and not all of it as it is once the text is decoded: letters of a line
+    or of a signature are encoded, as no program writes them, or a line is broken before what is no armour of the
+    text."""
     shown = ARMOUR_LINE.findall(body)
     if len(shown) != len(ARMOUR_LINE.findall(content)):
         return bool(shown)

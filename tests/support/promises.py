@@ -66,10 +66,10 @@ def name_of(line):
 # What a sentence promises, by the refusal, as a form with the numbers of the promise, and a look at it.
 
 
-def found_in(told, pattern):
-    found = re.search(pattern, told)
+def found_in(message, pattern):
+    found = re.search(pattern, message)
     if not found:
-        fail(f"the sentences\n{told}\ndo not say {pattern}")
+        fail(f"the sentences\n{message}\ndo not say {pattern}")
     return [text and int(text) for text in found.groups()]
 
 
@@ -84,31 +84,31 @@ def holds(desk, at, act, expected, *before):
 def look_from(name, pattern):
     """Refused so before a moment, and not so from then on."""
 
-    def look(desk, at, act, told):
-        [moment] = found_in(told, pattern)
+    def look(desk, at, act, message):
+        [moment] = found_in(message, pattern)
         holds(desk, moment - 1, act, (name, True))
         holds(desk, moment, act, (name, False))
 
     return look
 
 
-def look_at_too_early(desk, at, act, told):
-    if "takes no act that late" in told:
+def look_at_too_early(desk, at, act, message):
+    if "takes no act that late" in message:
         holds(desk, LATEST, act, ("TooEarly", True))
     else:
-        look_from("TooEarly", r"ends \S+ \((\d+)\); possible from then on")(desk, at, act, told)
+        look_from("TooEarly", r"ends \S+ \((\d+)\); possible from then on")(desk, at, act, message)
 
 
 def look_before(name):
     """Not refused so at the dates that are named, and at no other one that the desk takes."""
 
-    def look(desk, at, act, told):
-        if "no date could do" in told:
-            [clock] = found_in(told, r"since the desk's clock is at \S+ \((\d+)\)")
+    def look(desk, at, act, message):
+        if "no date would do" in message:
+            [clock] = found_in(message, r"any more: the desk's clock is at \S+ \((\d+)\)")
             holds(desk, clock, act, (name, True))
             holds(desk, clock - 1, act, ("ClockBack", True))
         else:
-            first, last = found_in(told, r"only a date could do from \S+ \((\d+)\) to \S+ \((\d+)\)")
+            first, last = found_in(message, r"only a date from \S+ \((\d+)\) to \S+ \((\d+)\) would do")
             for moment in first, last:
                 holds(desk, moment, act, (name, False))
             holds(desk, last + 1, act, (name, True))
@@ -125,7 +125,7 @@ def changed(act, **values):
 def look_at_edges(refusal, **edges):
     """Fields that are taken up to an edge, and not beyond it."""
 
-    def look(desk, at, act, told):
+    def look(desk, at, act, message):
         fields = [field for field in edges if field in act[2]]
         act = changed(act, **{field: edges[field][0][0] for field in fields})
         for field in fields:
@@ -136,7 +136,7 @@ def look_at_edges(refusal, **edges):
     return look
 
 
-def look_at_days(desk, at, act, told):
+def look_at_days(desk, at, act, message):
     most, beyond = (7, 8) if act[0] == "vary" else (21, 22)
     least, below = (-7, -8) if act[0] == "vary" else (7, 6)
     for days, is_refused in (least, False), (most, False), (below, True), (beyond, True):
@@ -150,14 +150,14 @@ class SheetsAlone(FileSheets):
         return None
 
 
-def days_in(told):
+def days_in(message):
     """The days of which a sentence says that they would do."""
-    first, last = found_in(told, r"days=(-?\d+)(?: to (-?\d+))? would do")
+    first, last = found_in(message, r"days=(-?\d+)(?: to (-?\d+))? would do")
     return range(first, (first if last is None else last) + 1)
 
 
-def look_at_end(desk, at, act, told):
-    fit = [] if "no days would do" in told else days_in(told)
+def look_at_end(desk, at, act, message):
+    fit = [] if "no days would do" in message else days_in(message)
     for days in range(-7, 8):
         holds(desk, at, changed(act, days=str(days)), ("EndsTooSoon", days not in fit))
     by_port = ends_too_soon(desk.case(at, act, SheetsAlone))
@@ -187,35 +187,35 @@ def fields_of(name):
     return [*ACTS[name][1], *(SECRET if name == "vote" else [])]
 
 
-def look_at_stage(desk, at, act, told):
-    acts = re.search("which takes (.*)", told)[1].split(", ")
+def look_at_stage(desk, at, act, message):
+    acts = re.search("which takes (.*)", message)[1].split(", ")
     for name, (path, _) in ACTS.items():
         if "{r}" in path:
             holds(desk, at, act_in(name, act[1]), ("WrongStage", name not in acts))
 
 
-def look_at_numbers(desk, at, act, told):
-    last = 1 if "choice 1 alone" in told else found_in(told, r"has the (?:choices|places) 1 to (\d+)")[0]
+def look_at_numbers(desk, at, act, message):
+    last = 1 if "choice 1 alone" in message else found_in(message, r"has the (?:choices|places) 1 to (\d+)")[0]
     field = "place" if act[0] == "cast" else "choice"
     for number, is_refused in (1, False), (last, False), (last + 1, True), (0, True):
         holds(desk, at, changed(act, **{field: str(number)}), ("NoChoice", is_refused))
 
 
-def look_at_ranks(desk, at, act, told):
-    count, given = found_in(told, r"has (\d+) places, and the ranks have (\d+) character")
+def look_at_ranks(desk, at, act, message):
+    count, given = found_in(message, r"has (\d+) places, and the ranks have (\d+) character")
     expect("the characters that were given", given, len(act[2]["ranks"]))
     for number, is_refused in (count, False), (count - 1, True), (count + 1, True):
         holds(desk, at, changed(act, ranks="1" * number), ("BadRanks", is_refused))
 
 
-def look_at_places(desk, at, act, told):
+def look_at_places(desk, at, act, message):
     result = run("result", desk.file, act[1]).out.decode()
     count = len(re.findall("^Option ", result, re.M))
-    if "has won" in told:
+    if "has won" in message:
         places = []
-        expect("the winner", f"Winner: {found_in(told, r'place ([0-9]+) has won')[0]}", result.splitlines()[-1])
+        expect("the winner", f"Winner: {found_in(message, r'place ([0-9]+) has won')[0]}", result.splitlines()[-1])
     else:
-        places = [int(place) for place in re.search("are level: (.*)", told)[1].split(", ")]
+        places = [int(place) for place in re.search("are level: (.*)", message)[1].split(", ")]
     for place in range(1, count + 1):
         holds(desk, at, changed(act, place=str(place)), ("NotTied", place not in places))
 
@@ -224,8 +224,8 @@ def logins(desk):
     return re.findall("^D: (\\S+) ", run("roll", desk.file).out.decode(), re.M)
 
 
-def look_at_sponsors(desk, at, act, told):
-    sponsors = re.search("the sponsors of choice [0-9]+ are: (.*)", told)[1].split(", ")
+def look_at_sponsors(desk, at, act, message):
+    sponsors = re.search("the sponsors of choice [0-9]+ are: (.*)", message)[1].split(", ")
     for login in logins(desk):
         holds(desk, at, changed(act, login=login), ("NotSponsor", login not in sponsors))
 
@@ -235,27 +235,27 @@ def of_choice(name, act, **values):
     return name, act[1], {"choice": act[2]["choice"]} | values
 
 
-def look_at_already(desk, at, act, told):
+def look_at_already(desk, at, act, message):
     if act[0] == "cast":
         last = run("result", desk.file, act[1]).out.decode().splitlines()[-1]
         expect("the casting vote", last.endswith(" by casting vote"), True)
         return
     login = act[2]["login"]
-    is_sponsor = re.search(f"^{login} (sponsors|proposes) choice {act[2]['choice']}$", told, re.M)[1] == "sponsors"
+    is_sponsor = re.search(f"^{login} (sponsors|proposes) choice {act[2]['choice']}$", message, re.M)[1] == "sponsors"
     holds(desk, at, of_choice("unsponsor", act, login=login), ("NotSponsor", not is_sponsor))
     if not is_sponsor:
         holds(desk, at, of_choice("withdraw", act), ("NoProposer", False))
 
 
-def look_at_proposer(desk, at, act, told):
-    proposer = re.search("choice [0-9]+ is proposed by (?:the )?(.*)$", told, re.M)[1]
+def look_at_proposer(desk, at, act, message):
+    proposer = re.search("choice [0-9]+ is proposed by (?:the )?(.*)$", message, re.M)[1]
     status = run("status", desk.file, act[1]).out.decode()
     lines = re.findall("^Proposer: (?:developer )?(.*)$", status, re.M)
     expect("the proposer", proposer, lines[int(act[2]["choice"]) - 1])
     holds(desk, at, of_choice("withdraw", act), ("NoProposer", False))
 
 
-def look_at_no_proposer(desk, at, act, told):
+def look_at_no_proposer(desk, at, act, message):
     holds(desk, at, of_choice("adopt", act, author="@leader"), ("HasProposer", False))
 
 
@@ -266,20 +266,20 @@ def roll_act(login, name="N"):
 def look_at_developer(name):
     """Refused so no more, once the developer is current on the roll."""
 
-    def look(desk, at, act, told):
+    def look(desk, at, act, message):
         login = act[2].get("login") or act[2]["author"]
-        expect("the login", login in told, True)
+        expect("the login", login in message, True)
         holds(desk, at, act, (name, False), roll_act(login))
 
     return look
 
 
-def look_at_clock_back(desk, at, act, told):
+def look_at_clock_back(desk, at, act, message):
     """Where an act is said to be possible at the desk's clock, the desk takes it then. Otherwise it is refused as is
     said, and what is said of that refusal holds too."""
-    refused = re.search(r"at the desk's clock, \S+ \((\d+)\), it would be refused too: (\w+): (.*)", told, re.DOTALL)
+    refused = re.search(r"at the desk's clock, \S+ \((\d+)\), it would be refused too: (\w+): (.*)", message, re.DOTALL)
     pattern = r"possible from \S+ \((\d+)\) on"
-    moment = int(refused[1]) if refused else found_in(told, pattern)[0]
+    moment = int(refused[1]) if refused else found_in(message, pattern)[0]
     holds(desk, moment - 1, act, ("ClockBack", True))
     expect(f"{act} at {moment}", desk.tried(moment, act), refused[2] if refused else "ok")
     if refused:
@@ -288,13 +288,13 @@ def look_at_clock_back(desk, at, act, told):
         PROMISES[refused[2]](desk, moment, act, refused[3][len(meaning) :].removeprefix("; "))
 
 
-def look_at_nothing(desk, at, act, told):
+def look_at_nothing(desk, at, act, message):
     """What promises nothing that the desk could answer."""
 
 
 LONG, TOO_LONG = "l" * 32, "l" * 33
 PROMISES = {
-    "BadMoment": lambda desk, at, act, told: [
+    "BadMoment": lambda desk, at, act, message: [
         holds(desk, moment, act, ("BadMoment", moment in (0, LATEST + 1))) for moment in (0, 1, LATEST, LATEST + 1)
     ],
     "ClockBack": look_at_clock_back,

@@ -1,7 +1,7 @@
 #!/usr/bin/env -S python3 -B
-"""Files of version 1, whose ballots stand in the table `ballot` and do not say how often their voter voted. Stock SQLite
-makes them, by the statements that programs of version 1 had and by rows that are written out here. One was made by a
-program of version 1 itself, and is kept: version_1.db.gz.
+"""Files of version 1, whose ballots stand in the table `ballot` and do not say how often their voter voted. Stock
+SQLite makes them, by the statements that programs of version 1 had and by rows that are written out here. One was made
+by a program of version 1 itself, and is kept: version_1.db.gz.
 
     python3 -m tests.support.version_1 PROGRAM
 

@@ -9,6 +9,6 @@
     ballots     ballots that come by mail, and the answers to voters
     web         pages to look at in a browser
     package     what is packed; from the sources alone
-    commands    a file a command, with its words (`reader`) and what it does (`run`)
+    commands    a file a command, with its `parser` and what it does (`run`)
 
 A module imports from its own room and from lower ones alone."""

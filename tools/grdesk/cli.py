@@ -1,49 +1,43 @@
-"""Runs a tool of the voting desk, or a subcommand of its program.
-
-    gr-desk TOOL ..
-    gr-desk SUBCOMMAND ..
-
-The first word says which one it is, and all words after it are handed on as they are. The tool that stands beside this
-file is run, and the program that belongs to it: in the sources, in a folder that `gr-desk install` made, and where the
-package is installed. So two versions on one machine are never mixed. `gr-desk TOOL --help` says what a tool does,
-`gr-desk help` what the program does, and `gr-desk help SUBCOMMAND` what a subcommand does. `gr-desk --version` prints
-the program's version, that of its files, and the toolchain's.
-
-The exit status is that of the tool or of the program. It is 2 where the first word is wrong, and 3 where the program
-is not there; a line on error output says why.
-"""
+"""Run a tool of the voting desk, or a subcommand of its program"""
 import os
 import signal
 import sys
 from importlib import import_module
 
 from grdesk.desk.program import program
+from grdesk.error import Failed, Stop, Wrong
 from grdesk.interruption import ENDS, end
 from grdesk.inventory import commands, examples, laid_down
 from grdesk.output import note, running, say
-from grdesk.stop import Failed, Stop, Wrong
+from grdesk.parser import Parser
 
 
 def purpose(path):
-    """The first line of a tool's help, which stands at its head."""
+    """What a tool does, as its file says at its head."""
     with path.open(encoding="utf-8") as file:
         line = file.readline()
         line = file.readline() if line.startswith("#!") else line
         return line.lstrip("#").strip().replace('"""', "").rstrip(".:")
 
 
-def help_text():
-    found = laid_down()
-    width = max(map(len, found))
-    lines = [f"    {name:<{width}}  {purpose(found[name])}" for name in sorted(found)]
-    return "\n".join([__doc__.rstrip(), "", "The tools:", "", *lines, ""])
+def parser():
+    """The parser of the command itself. Its words are handed on as they are, so it has the help alone."""
+    command = Parser(
+        "",
+        __doc__,
+        ["TOOL ..", "SUBCOMMAND ..", "help [SUBCOMMAND]", "--version"],
+        statuses=[("", "that of the tool or of the program")],
+    )
+    for name, path in sorted(laid_down().items()):
+        command.add_command(name, purpose(path))
+    return command
 
 
 def run_here(name, words):
     """Runs a command in this process, and gives its exit status."""
     running.append(name)
     command = import_module(f"grdesk.commands.{name}")
-    return command.run(command.reader().read(words))
+    return command.run(command.parser().read(words))
 
 
 def hand_on(path, words):
@@ -60,7 +54,7 @@ def hand_on(path, words):
 def gr_desk(words):
     first = words[0] if words else ""
     if first in ("-h", "--help"):
-        say(help_text().encode())
+        say(parser().format_help().encode())
         return 0
     if first == "help":
         return hand_on(program(), [*words[1:], "--help"])

@@ -4,7 +4,7 @@ import re
 import time
 from datetime import datetime, timedelta, timezone
 
-from grdesk.stop import Failed, Wrong
+from grdesk.error import Failed, Wrong
 
 
 def date_of(moment):

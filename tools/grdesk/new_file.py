@@ -7,7 +7,7 @@ import stat
 from contextlib import contextmanager, suppress
 from enum import Enum
 
-from grdesk.stop import Refused
+from grdesk.error import Refused
 
 # What ends the name of a file that is not whole yet.
 BEGUN = ".new"
@@ -47,6 +47,23 @@ def write_all(descriptor, data):
         data = data[os.write(descriptor, data) :]
 
 
+def is_trusted(about):
+    """Whether something that was looked at is this account's, or root's."""
+    return about.st_uid in (0, os.geteuid())
+
+
+def open_folder(path):
+    """The descriptor of a folder. The system calls a link no directory, so the error says what it is."""
+    # A path that ends in a slash would lead through a link.
+    name = path.rstrip("/") or "/"
+    try:
+        return os.open(name, os.O_RDONLY | os.O_DIRECTORY | os.O_NOFOLLOW)
+    except OSError as error:
+        if os.path.islink(name):
+            error.strerror = "it is a link, and no link is followed: name the folder itself"
+        raise
+
+
 class Folder:
     """A folder that is there, open by its descriptor until the end. The last part of its path must be no link, or there
     is an OSError. `readers` says who may read what is made in it."""
@@ -55,8 +72,7 @@ class Folder:
         self.path = path
         self.readers = readers
         with naming(path):
-            # A path that ends in a slash would lead through a link.
-            self.descriptor = os.open(path.rstrip("/") or "/", os.O_RDONLY | os.O_DIRECTORY | os.O_NOFOLLOW)
+            self.descriptor = open_folder(path)
 
     def __enter__(self):
         return self
@@ -141,15 +157,15 @@ def make_folder(path, readers):
         os.fchmod(made.descriptor, readers.of_folder)
 
 
-def check_unshared(folder, told, why):
-    """Refuses a folder that is another account's, or into which others can write. What is told begins and ends with
-    these words."""
+def check_unshared(folder, outcome, why):
+    """Refuses a folder that is another account's, or into which others can write. The message begins with
+    `outcome` and ends with `why`."""
     about = folder.about()
-    if about.st_uid not in (0, os.geteuid()):
-        raise Refused(f"{told}: {folder.path} belongs to another account, {why}: name a folder of your own")
+    if not is_trusted(about):
+        raise Refused(f"{outcome}: {folder.path} belongs to another account, {why}: name a folder of your own")
     if about.st_mode & WRITTEN_BY_OTHERS:
         what_to_do = f"chmod go-w {shlex.quote(folder.path)}"
-        raise Refused(f"{told}: other accounts can write into {folder.path}, {why}: {what_to_do}")
+        raise Refused(f"{outcome}: other accounts can write into {folder.path}, {why}: {what_to_do}")
 
 
 def check_shared(folder):

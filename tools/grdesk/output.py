@@ -4,7 +4,7 @@ import sys
 import unicodedata
 from contextlib import suppress
 
-from grdesk.stop import Failed, Refused
+from grdesk.error import Failed, Refused
 
 
 def write(stream, text):
@@ -27,7 +27,7 @@ def say_line(text):
     say(f"{text}\n".encode(errors="backslashreplace"))
 
 
-# The command that runs, once the first word has told it.
+# The command that runs, once the first word was read.
 running = []
 
 

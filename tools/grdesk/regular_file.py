@@ -2,10 +2,10 @@
 import os
 import stat
 
-from grdesk.stop import Failed
+from grdesk.error import Failed
 
 
-def opened(path):
+def open_regular(path):
     """A regular file, open to be read without a buffer. A link to one is followed. Fails if something else is there, or
     by FileNotFoundError if nothing is."""
     descriptor = os.open(path, os.O_RDONLY | os.O_NONBLOCK)

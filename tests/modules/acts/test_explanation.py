@@ -10,7 +10,16 @@ from tests.support.in_process import said
 from tests.support.program import DAY, T0
 from grdesk.acts import explanation
 from grdesk.acts.act import Act
-from grdesk.acts.explanation import ballot, called, moved, proposed, rank_lines, remedied, sentences, shortened
+from grdesk.acts.explanation import (
+    ballot_sentences,
+    called,
+    moved,
+    proposed,
+    rank_lines,
+    remedied,
+    sentences,
+    shortened,
+)
 from grdesk.desk.request import Response
 
 # 2099-12-31T23:59:59Z, the last moment that a desk takes.
@@ -20,32 +29,32 @@ END = "2026-01-15T00:00:00Z (1768435200)"
 
 
 class Calls(Case):
-    def told(self, line):
+    def sentences(self, line):
         return list(called(case("call"), line))
 
     def test_a_vote_that_ends_at_the_last_moment_of_a_desk_can_be_closed(self):
-        told = "the voting on resolution 1 ends 2099-12-31T23:59:59Z (4102444799); a close is possible from then on"
-        self.assertEqual(self.told(f"ok 5 places 2 until {LATEST}\n"), [told])
+        message = "the voting on resolution 1 ends 2099-12-31T23:59:59Z (4102444799); a close is possible from then on"
+        self.assertEqual(self.sentences(f"ok 5 places 2 until {LATEST}\n"), [message])
 
     def test_a_vote_that_ends_a_second_later_can_never_be_closed(self):
-        told = "the voting on resolution 1 ends 2100-01-01T00:00:00Z (4102444800); it can never be closed"
-        self.assertEqual(self.told(f"ok 5 places 2 until {LATEST + 1}\n"), [told])
+        message = "the voting on resolution 1 ends 2100-01-01T00:00:00Z (4102444800); it can never be closed"
+        self.assertEqual(self.sentences(f"ok 5 places 2 until {LATEST + 1}\n"), [message])
 
     def test_a_call_that_cancels_says_so(self):
-        told = "no choice was live, so that resolution 1 is cancelled (Constitution, A.2.4)"
-        self.assertEqual(self.told("ok 5 cancelled\n"), [told])
+        message = "no choice was live, so resolution 1 is cancelled (Constitution, A.2.4)"
+        self.assertEqual(self.sentences("ok 5 cancelled\n"), [message])
 
 
 class Discussions(Case):
     def test_the_end_is_told_if_it_moved_by_a_second_and_not_if_it_stayed(self):
         before, after = DISCUSSION, (T0, T0 + 14 * DAY + 1)
-        told = f"the discussion of resolution 1 now ends 2026-01-15T00:00:01Z (1768435201), and no more {END}"
-        self.assertEqual(list(moved(case("choice"), before, after)), [told])
+        message = f"the discussion of resolution 1 now ends 2026-01-15T00:00:01Z (1768435201), and no longer {END}"
+        self.assertEqual(list(moved(case("choice"), before, after)), [message])
         self.assertEqual(list(moved(case("choice"), before, before)), [])
 
     def test_a_discussion_that_begins_is_told_with_its_end_and_a_draft_says_nothing(self):
-        told = f"the discussion of resolution 1 has begun, and ends {END}"
-        self.assertEqual(list(moved(case("sponsor"), None, DISCUSSION)), [told])
+        message = f"the discussion of resolution 1 has begun, and ends {END}"
+        self.assertEqual(list(moved(case("sponsor"), None, DISCUSSION)), [message])
         self.assertEqual(list(moved(case("sponsor"), None, None)), [])
 
     def test_a_proposal_is_a_draft_or_begins_its_discussion(self):
@@ -53,8 +62,8 @@ class Discussions(Case):
         self.assertEqual(proposed(begun, "ok 3 resolution 12\n"),
                          f"the discussion of resolution 12 has begun, and ends {END}")
         draft = case("propose", of=status("Draft", number=12, discussion=None), resolution=12)
-        told = "resolution 12 is a draft, as long as its choice has too few sponsors (Constitution, 4.2.1)"
-        self.assertEqual(proposed(draft, "ok 3 resolution 12\n"), told)
+        message = "resolution 12 is a draft until its choice has enough sponsors (Constitution, 4.2.1)"
+        self.assertEqual(proposed(draft, "ok 3 resolution 12\n"), message)
 
 
 class Shortness(Case):
@@ -67,83 +76,83 @@ class Shortness(Case):
         return list(form(act, was))
 
     def test_a_choice_that_is_short_now_lapses_a_day_after_that_moment(self):
-        told = "choice 2 of resolution 1 is short now: it lapses 2026-01-02T00:00:00Z (1767312000), unless it has "
-        self.assertEqual(self.after(shortened, {}, short=T0), [f"{told}enough sponsors before then"])
-        proposer = f"{told}a proposer (and enough sponsors, if that is a developer) before then"
+        message = "choice 2 of resolution 1 is short now: it lapses 2026-01-02T00:00:00Z (1767312000), unless it has "
+        self.assertEqual(self.after(shortened, {}, short=T0), [f"{message}enough sponsors before then"])
+        proposer = f"{message}a proposer (and enough sponsors, if that is a developer) before then"
         self.assertEqual(self.after(shortened, {}, short=T0, proposer="none"), [proposer])
 
     def test_one_that_was_short_before_keeps_its_moment(self):
-        told = "choice 2 of resolution 1 is short since 2026-01-01T00:00:00Z (1767225600): it lapses 2026-01-02T00:00:0"
+        message = "choice 2 of resolution 1 is short since 2026-01-01T00:00:00Z (1767225600): it lapses 2026-01-02T00"
         found = self.after(shortened, {"short": T0}, short=T0)
-        self.assertEqual([each[: len(told)] for each in found], [told])
+        self.assertEqual([each[: len(message)] for each in found], [message])
 
     def test_one_that_was_never_introduced_or_has_enough_does_not_lapse(self):
-        told = "choice 2 of resolution 1 was never introduced, so that it does not lapse"
-        self.assertEqual(self.after(shortened, {}, introduced=None), [told])
+        message = "choice 2 of resolution 1 was never introduced, so it does not lapse"
+        self.assertEqual(self.after(shortened, {}, introduced=None), [message])
         self.assertEqual(self.after(shortened, {}), ["choice 2 of resolution 1 is not short of sponsors"])
 
     def test_one_that_got_what_it_lacked_is_not_short_any_more_and_one_that_did_not_is(self):
         self.assertEqual(self.after(remedied, {"short": T0}), ["choice 2 of resolution 1 is not short any more"])
-        told = "choice 2 of resolution 1 is short since 2026-01-01T00:00:00Z (1767225600): it lapses"
+        message = "choice 2 of resolution 1 is short since 2026-01-01T00:00:00Z (1767225600): it lapses"
         found = self.after(remedied, {"short": T0}, short=T0)
-        self.assertEqual([each[: len(told)] for each in found], [told])
+        self.assertEqual([each[: len(message)] for each in found], [message])
 
     def test_of_a_choice_that_was_not_short_a_sponsor_more_says_nothing(self):
         first, second = choice(1, short=T0), choice(2)
         act = case("sponsor", {"choice": "2", "login": "bob"}, of=status(choices=[first, second]))
         self.assertEqual(list(sentences(act, 200, "ok 5\n", status(choices=[first, second]))), [])
         short = status(choices=[choice(1), choice(2, short=T0)])
-        told = "choice 2 of resolution 1 is not short any more"
-        self.assertEqual(list(sentences(act, 200, "ok 5\n", short)), [told])
+        message = "choice 2 of resolution 1 is not short any more"
+        self.assertEqual(list(sentences(act, 200, "ok 5\n", short)), [message])
 
 
 class Accepted(Case):
     """Which sentences an act has that was accepted. A desk that is not looked at says nothing of what changed."""
 
-    def told(self, name, line="ok 5\n", values=None, of=None, before=None):
+    def sentences(self, name, line="ok 5\n", values=None, of=None, before=None):
         return list(sentences(case(name, values, of=of), 200, line, before))
 
     def test_a_call_is_told_its_end_whether_the_desk_is_looked_at_or_not(self):
         for of in None, status():
             with self.subTest(of=of):
-                [told] = self.told("call", f"ok 5 places 2 until {LATEST}\n", of=of)
-                self.assertIn("the voting on resolution 1 ends 2099-12-31T23:59:59Z", told)
+                [message] = self.sentences("call", f"ok 5 places 2 until {LATEST}\n", of=of)
+                self.assertIn("the voting on resolution 1 ends 2099-12-31T23:59:59Z", message)
 
     def test_a_withdrawal_and_the_loss_of_a_sponsor_are_told_whether_the_choice_is_short(self):
         for name in "withdraw", "unsponsor":
             with self.subTest(name=name):
                 short = status(choices=[choice(1, short=T0)])
-                [told] = self.told(name, values={"choice": "1", "login": "bob"}, of=short, before=status())
-                self.assertIn("choice 1 of resolution 1 is short now: it lapses 2026-01-02T00:00:00Z", told)
+                [message] = self.sentences(name, values={"choice": "1", "login": "bob"}, of=short, before=status())
+                self.assertIn("choice 1 of resolution 1 is short now: it lapses 2026-01-02T00:00:00Z", message)
 
     def test_what_moved_the_end_is_told_by_each_act_that_may(self):
         later = status(discussion=(T0, T0 + 15 * DAY))
         for name in "choice", "sponsor", "adopt", "amend", "vary":
             with self.subTest(name=name):
-                [told] = self.told(name, values={"choice": "1", "login": "bob"}, of=later, before=status())
-                self.assertIn("the discussion of resolution 1 now ends 2026-01-16T00:00:00Z", told)
+                [message] = self.sentences(name, values={"choice": "1", "login": "bob"}, of=later, before=status())
+                self.assertIn("the discussion of resolution 1 now ends 2026-01-16T00:00:00Z", message)
 
     def test_a_proposal_and_a_vote_are_told_if_the_desk_is_looked_at(self):
-        self.assertEqual(len(self.told("propose", "ok 5 resolution 1\n", of=status())), 1)
-        self.assertEqual(self.told("propose", "ok 5 resolution 1\n"), [])
+        self.assertEqual(len(self.sentences("propose", "ok 5 resolution 1\n", of=status())), 1)
+        self.assertEqual(self.sentences("propose", "ok 5 resolution 1\n"), [])
         ranks = {"login": "eve", "ranks": "12"}
-        self.assertEqual(len(self.told("vote", values=ranks, of=IN_VOTING)), 3)
-        self.assertEqual(self.told("vote", values=ranks), [])
+        self.assertEqual(len(self.sentences("vote", values=ranks, of=IN_VOTING)), 3)
+        self.assertEqual(self.sentences("vote", values=ranks), [])
 
     def test_other_acts_and_a_desk_that_was_not_looked_at_before_say_nothing(self):
-        self.assertEqual(self.told("close", of=status()), [])
+        self.assertEqual(self.sentences("close", of=status()), [])
         for name in "vary", "withdraw":
             with self.subTest(name=name):
-                self.assertEqual(self.told(name, values={"choice": "1"}, of=status()), [])
+                self.assertEqual(self.sentences(name, values={"choice": "1"}, of=status()), [])
 
 
 class Ballots(Case):
-    def told(self, ranks, of=IN_VOTING, login="eve"):
+    def sentences(self, ranks, of=IN_VOTING, login="eve"):
         people = roll(3, eve="Eve Adams")
-        return list(ballot(case("vote", {"login": login, "ranks": ranks}, of=of, people=people)))
+        return list(ballot_sentences(case("vote", {"login": login, "ranks": ranks}, of=of, people=people)))
 
     def test_each_place_has_its_summary_and_its_rank(self):
-        self.assertEqual(self.told("3-1"), [
+        self.assertEqual(self.sentences("3-1"), [
             "the vote of eve, Eve Adams",
             "place 1, Red: rank 3",
             "place 2, Green: no rank",
@@ -155,24 +164,25 @@ class Ballots(Case):
                                                          "place 4: rank 35", "place 5: no rank"])
 
     def test_a_rank_above_the_number_of_places_is_asked_about_and_one_that_equals_it_is_not(self):
-        self.assertEqual(len(self.told("123")), 4)
-        told = "rank 4 is allowed, with 3 places: is it a typing error? A later ballot replaces this one"
-        self.assertEqual(self.told("124")[-1], told)
+        self.assertEqual(len(self.sentences("123")), 4)
+        asked = "is it a typing error? A later ballot replaces this one"
+        message = f"rank 4 is allowed, but there are only 3 places: {asked}"
+        self.assertEqual(self.sentences("124")[-1], message)
 
     def test_whose_vote_it_is_is_told_also_of_a_login_that_is_not_on_the_roll(self):
-        self.assertEqual(self.told("123", login="mallory")[0], "the vote of mallory, who is not on the roll")
+        self.assertEqual(self.sentences("123", login="mallory")[0], "the vote of mallory, who is not on the roll")
 
     def test_a_summary_that_moves_what_stands_beside_it_is_shown_by_the_number_of_its_mark(self):
         strange = status("Voting", [choice(1, summary="Red\u202e", place=1)])
-        self.assertEqual(self.told("12", of=strange)[1], "place 1, Red<U+202E>: rank 1")
+        self.assertEqual(self.sentences("12", of=strange)[1], "place 1, Red<U+202E>: rank 1")
 
     def test_a_choice_without_a_place_is_not_on_the_ballot(self):
         lapsed = status("Voting", [choice(1, summary="Lapsed"), choice(2, summary="Green", place=1)])
-        told = ["place 1, Green: rank 2", "place 2, None of the above: rank 1"]
-        self.assertEqual(self.told("21", of=lapsed)[1:], told)
+        message = ["place 1, Green: rank 2", "place 2, None of the above: rank 1"]
+        self.assertEqual(self.sentences("21", of=lapsed)[1:], message)
 
     def test_by_a_port_at_which_nothing_is_looked_at_the_last_place_has_its_name(self):
-        unseen = list(ballot(case("vote", {"login": "eve", "ranks": "12-"})))
+        unseen = list(ballot_sentences(case("vote", {"login": "eve", "ranks": "12-"})))
         self.assertEqual(unseen, ["the vote of eve", "place 1: rank 1", "place 2: rank 2",
                                   "place 3, None of the above: no rank"])
 
@@ -223,7 +233,7 @@ class Looks(Case):
 
         self.enter(mock.patch.object(explanation, "sheets_of", sheets))
         self.enter(mock.patch.object(explanation, "is_at_terminal", lambda: False))
-        return explanation.Explained(act, SimpleNamespace(desk="desk.db", explain=False, at=T0))
+        return explanation.Explanation(act, SimpleNamespace(desk="desk.db", explain=False, at=T0))
 
     def lines(self, look, *words):
         with said() as text:
@@ -234,8 +244,8 @@ class Looks(Case):
         desk = Desk(*self.ENDS)
         it = self.explained(desk, Act("/resolutions/1/vary", {"days": b"1"}))
         self.assertEqual(self.lines(it.before), [])
-        told = f"the discussion of resolution 1 now ends 2026-01-16T00:00:00Z (1768521600), and no more {END}"
-        self.assertEqual(self.lines(it.after, Response(200, b"ok 5\n")), [told])
+        message = f"the discussion of resolution 1 now ends 2026-01-16T00:00:00Z (1768521600), and no longer {END}"
+        self.assertEqual(self.lines(it.after, Response(200, b"ok 5\n")), [message])
         self.assertEqual(desk.asked, [("status", 1)] * 2)
 
     def test_what_was_looked_at_before_a_refusal_is_not_asked_for_again(self):
@@ -248,14 +258,14 @@ class Looks(Case):
 
     def test_after_a_fault_it_is_told_that_the_act_may_be_there(self):
         it = self.explained(Desk(*self.ENDS), Act("/resolutions/1/vary", {"days": b"1"}))
-        told = "the desk failed; once it is opened again it has this act, or has it not: look before you send it again"
-        self.assertEqual(self.lines(it.after, Response(503, b"fault F2 Store\n")), [told])
+        message = "the desk failed, and may have this act or not: look before you send it again"
+        self.assertEqual(self.lines(it.after, Response(503, b"fault F2 Store\n")), [message])
 
     def test_of_an_act_that_is_held_it_is_told_whether_the_desk_would_refuse_it_as_it_is_now(self):
         act = Act("/resolutions/1/call", {"days": b"7"})
         desk = Desk(*self.ENDS, tried=Response(409, b"refused 13 TooEarly\n"))
         lines = self.lines(self.explained(desk, act).waits)
-        self.assertEqual(lines[0], "warning: the desk as it is now would not take this act: refused 13 TooEarly")
+        self.assertEqual(lines[0], "warning: as the desk is now, it would refuse this act: refused 13 TooEarly")
         self.assertEqual(lines[2], f"the discussion of resolution 1 ends {END}; possible from then on")
         self.assertEqual(desk.asked[0], ("tried", b"/resolutions/1/call", T0))
         taken = Desk(*self.ENDS, tried=Response(200, b"ok 5 places 2 until 1769040000\n"))

@@ -19,7 +19,7 @@ from grdesk.acts.moment import (  # noqa: E402
     span_text,
     until_of,
 )
-from grdesk.stop import Refused, Wrong  # noqa: E402
+from grdesk.error import Refused, Wrong  # noqa: E402
 
 HOUR, MINUTE = 3_600, 60
 # A span is told in days, hours or minutes from two of these on, and what is left over is not told.
@@ -69,15 +69,16 @@ class Spans(Case):
     def test_nothing_else_is_a_duration(self):
         for text in NO_DURATIONS:
             with self.subTest(text=text):
-                self.assertEqual(stopped(Wrong, duration, text), f"a DURATION is as 24h or 2d, and not {text!r}")
+                message = f"a DURATION is written like 24h or 2d, and not {text!r}"
+                self.assertEqual(stopped(Wrong, duration, text), message)
 
 
 class Objections(Case):
     def test_a_hold_until_the_moment_of_the_act_itself_or_before_it_is_wrong(self):
         for until in T0 - 1, T0:
             with self.subTest(until=until):
-                told = stopped(Wrong, until_of, words(hold_until=until), T0)
-                self.assertEqual(told, "--hold-until must be later than the act itself")
+                message = stopped(Wrong, until_of, words(hold_until=until), T0)
+                self.assertEqual(message, "--hold-until must be later than the act itself")
 
     def test_a_hold_until_a_second_later_is_taken(self):
         self.assertEqual(until_of(words(hold_until=T0 + 1), T0), T0 + 1)
@@ -91,26 +92,26 @@ class Objections(Case):
 
 class Dates(Case):
     def test_a_date_before_2000_is_wrong_and_the_first_moment_of_2000_is_not(self):
-        told = "--at is 1999-12-31T23:59:59Z (946684799); a date is written as 2026-01-14T21:07:00Z, and one before"
-        self.assertEqual(stopped(Wrong, check_seconds, "--at", YEAR_2000 - 1)[: len(told)], told)
+        message = "--at is 1999-12-31T23:59:59Z (946684799); a date is written as 2026-01-14T21:07:00Z, and one before"
+        self.assertEqual(stopped(Wrong, check_seconds, "--at", YEAR_2000 - 1)[: len(message)], message)
         for moment in YEAR_2000, None:
             with self.subTest(moment=moment):
                 self.assertIsNone(check_seconds("--at", moment))
 
     def test_an_act_of_this_second_is_sent_and_one_of_the_next_is_not(self):
         check_clocks(T0, T0, T0)
-        told = f"nothing was sent: 2026-01-01T00:00:01Z ({T0 + 1}) is later than the machine's clock by 1 second;"
-        self.assertEqual(stopped(Refused, check_clocks, T0 + 1, T0, T0)[: len(told)], told)
+        message = f"nothing was sent: 2026-01-01T00:00:01Z ({T0 + 1}) is later than the machine's clock by 1 second;"
+        self.assertEqual(stopped(Refused, check_clocks, T0 + 1, T0, T0)[: len(message)], message)
 
     def test_a_desk_whose_clock_is_a_second_later_than_the_machines_takes_nothing(self):
-        told = f"nothing was sent: the desk's clock is 2026-01-01T00:00:01Z ({T0 + 1}), later than the machine's by 1"
-        self.assertEqual(stopped(Refused, check_clocks, T0, T0 + 1, T0)[: len(told)], told)
+        message = f"nothing was sent: the desk's clock is 2026-01-01T00:00:01Z ({T0 + 1}), later than the machine's by"
+        self.assertEqual(stopped(Refused, check_clocks, T0, T0 + 1, T0)[: len(message)], message)
 
     def test_a_late_clock_is_told_of_the_moment_that_was_given_or_of_the_machine(self):
-        told = "--at lies 3 days before the desk's clock: each act at it is refused 2 ClockBack"
-        self.assertEqual(late_clock("3 days", True), told)
-        told = "the desk's clock is 3 days later than the machine's: until then each act without --at is refused 2"
-        self.assertEqual(late_clock("3 days", False), f"{told} ClockBack")
+        message = "--at is 3 days before the desk's clock: each act with that date is refused 2 ClockBack"
+        self.assertEqual(late_clock("3 days", True), message)
+        message = "the desk's clock is 3 days later than the machine's: until then each act without --at is refused 2"
+        self.assertEqual(late_clock("3 days", False), f"{message} ClockBack")
 
 
 class LateCalls(Case):

@@ -17,8 +17,8 @@ MEANINGS = {
     "ClockBack": "a desk takes no act that is dated before its last one",
     "BadLogin": "a login has 1 to 32 of the characters a to z, 0 to 9, '.', '_' and '-', and begins with a letter or a "
                 "digit",
-    "BadText": "a name or a summary has 1 to 80 characters, a text 1 to 20,000 bytes; a control character is in none, "
-               "but that a text may have tabs and line ends",
+    "BadText": "a name or a summary has 1 to 80 characters, a text 1 to 20,000 bytes; none has a control "
+               "character, except tabs and line ends in a text",
     "BadRatio": "a ratio is 1 to 9",
     "BadDays": "the days of vary are -7 to 7, and those of call 7 to 21",
     "BadToken": "a token has 8 to 64 characters, each of them a letter of A to Z or a to z, or a digit",
@@ -26,8 +26,8 @@ MEANINGS = {
             "import has 2,000 rows at most",
     "NoResolution": "there is no resolution with this number; they are numbered from 1 on, as they were proposed",
     "NoChoice": "there is no choice with this number, or for cast no place",
-    "WrongStage": "this act is not taken in the stage of the resolution, which its status tells",
-    "Ended": "the time for this act was over at its date; only an earlier date could do, and none before the desk's "
+    "WrongStage": "the stage of the resolution, which its status shows, does not allow this act",
+    "Ended": "the time for this act was over at its date; only an earlier date would do, but none before the desk's "
              "clock",
     "TooEarly": "a call waits for the end of the discussion, and a close for that of the time for votes",
     "NoDeveloper": "nobody on the roll has this login",
@@ -36,7 +36,7 @@ MEANINGS = {
     "Already": "the developer sponsors the choice already, or proposes it; or the casting vote was used before",
     "NotSponsor": "this developer is no sponsor of the choice",
     "HasProposer": "the choice has a proposer; others who step forward are entered by sponsor (Constitution, A.2.1)",
-    "NoProposer": "nobody proposes the choice, so that nobody withdraws from it",
+    "NoProposer": "nobody proposes the choice, so nobody can withdraw from it",
     "EndsTooSoon": "by these days the discussion would end within 48 hours (Constitution, A.1.6)",
     "BadRanks": "the ranks are a character for each place of the ballot: 1 to 9, then a to z, or - for no rank",
     "NotTied": "the casting vote chooses among several options that are level in the end (Constitution, A.5.8)",
@@ -90,8 +90,8 @@ class Meanings(Case):
 
     def test_a_roll_file_that_is_none_is_told_its_form_and_the_record(self):
         act = case("import", {"roll": "login,name,status\neve,Eve\n"})
-        told = "the first record of a roll file is login,name,status, and each further one has three fields in UTF-8"
-        self.assertEqual(list(wrong_request(act, "bad roll 2\n")), [told, "record 2 is 'eve,Eve'"])
+        message = "the first record of a roll file is login,name,status, and each further one has three fields in UTF-8"
+        self.assertEqual(list(wrong_request(act, "bad roll 2\n")), [message, "record 2 is 'eve,Eve'"])
 
     def test_what_is_no_refusal_and_no_wrong_field_has_no_sentence(self):
         self.assertEqual(list(wrong_request(case("close"), "no such path\n")), [])
@@ -100,22 +100,22 @@ class Meanings(Case):
 class OfActs(Case):
     """What is said of an act as it was given."""
 
-    def told(self, refused, act, **values):
+    def sentences(self, refused, act, **values):
         return list(refusal(case(act, values), refused, None))[1:]
 
     def test_a_login_is_shown_with_its_marks_by_their_numbers(self):
         for refused in "BadLogin", "NoDeveloper":
             with self.subTest(refused=refused):
-                self.assertEqual(self.told(refused, "sponsor", choice="1", login="e\u202eve"),
+                self.assertEqual(self.sentences(refused, "sponsor", choice="1", login="e\u202eve"),
                                  ["the login is 'e<U+202E>ve'"])
-                self.assertEqual(self.told(refused, "propose", author="Eve"), ["the login is 'Eve'"])
+                self.assertEqual(self.sentences(refused, "propose", author="Eve"), ["the login is 'Eve'"])
 
     def test_names_and_summaries_are_measured_in_characters_and_texts_in_bytes(self):
-        self.assertEqual(self.told("BadText", "developer", login="eve", name="\u00e9" * 81),
+        self.assertEqual(self.sentences("BadText", "developer", login="eve", name="\u00e9" * 81),
                          ["the name has 81 characters"])
-        self.assertEqual(self.told("BadText", "amend", summary="\u00e9", text="\u00e9"),
+        self.assertEqual(self.sentences("BadText", "amend", summary="\u00e9", text="\u00e9"),
                          ["the summary has 1 character, and the text has 2 bytes"])
-        self.assertEqual(self.told("BadText", "amend", summary="", text="x"),
+        self.assertEqual(self.sentences("BadText", "amend", summary="", text="x"),
                          ["the summary has 0 characters, and the text has 1 byte"])
 
 
@@ -145,102 +145,104 @@ class Records(Case):
 class OfDesks(Case):
     """What is said of an act on the desk as it is."""
 
-    def told(self, refused, name, of=None, values=None, **seen):
+    def sentences(self, refused, name, of=None, values=None, **seen):
         return list(refusal(case(name, values or {}, of=of or status(), **seen), refused, None))[1:]
 
     def test_a_stage_is_told_with_the_acts_that_it_takes(self):
         for stage, text in STAGES.items():
             with self.subTest(stage=stage):
-                self.assertEqual(self.told("WrongStage", "vary", status(stage)), [f"resolution 1 {text}"])
+                self.assertEqual(self.sentences("WrongStage", "vary", status(stage)), [f"resolution 1 {text}"])
 
     def test_a_call_and_a_close_are_possible_from_the_end_on(self):
-        told = "the discussion of resolution 1 ends 2026-01-15T00:00:00Z (1768435200); possible from then on"
-        self.assertEqual(self.told("TooEarly", "call"), [told])
-        told = "the voting on resolution 1 ends 2026-01-22T00:00:00Z (1769040000); possible from then on"
-        self.assertEqual(self.told("TooEarly", "close", status("Voting", voting=VOTING)), [told])
+        message = "the discussion of resolution 1 ends 2026-01-15T00:00:00Z (1768435200); possible from then on"
+        self.assertEqual(self.sentences("TooEarly", "call"), [message])
+        message = "the voting on resolution 1 ends 2026-01-22T00:00:00Z (1769040000); possible from then on"
+        self.assertEqual(self.sentences("TooEarly", "close", status("Voting", voting=VOTING)), [message])
 
     def test_a_vote_that_ends_at_the_last_moment_is_closed_then_and_one_of_a_second_later_never(self):
         last = status("Voting", voting=(LATEST - 7 * DAY, LATEST))
-        told = "the voting on resolution 1 ends 2099-12-31T23:59:59Z (4102444799); possible from then on"
-        self.assertEqual(self.told("TooEarly", "close", last), [told])
+        message = "the voting on resolution 1 ends 2099-12-31T23:59:59Z (4102444799); possible from then on"
+        self.assertEqual(self.sentences("TooEarly", "close", last), [message])
         late = status("Voting", voting=(LATEST - 7 * DAY, LATEST + 1))
-        told = "the voting on resolution 1 ends 2100-01-01T00:00:00Z (4102444800), and a desk takes no act that late"
-        self.assertEqual(self.told("TooEarly", "close", late), [told])
+        message = "the voting on resolution 1 ends 2100-01-01T00:00:00Z (4102444800), and a desk takes no act that late"
+        self.assertEqual(self.sentences("TooEarly", "close", late), [message])
 
     def test_what_came_late_has_the_dates_that_could_do_up_to_the_last_second_before_the_end(self):
         end = DISCUSSION[1]
         head = "the discussion of resolution 1 ended 2026-01-15T00:00:00Z (1768435200); "
         for clock, text in (
-            (T0, "only a date could do from 2026-01-01T00:00:00Z (1767225600) to 2026-01-14T23:59:59Z (1768435199)"),
-            (end - 1, "only a date could do from 2026-01-14T23:59:59Z (1768435199) to 2026-01-14T23:59:59Z "
-                      "(1768435199)"),
-            (end, "no date could do any more, since the desk's clock is at 2026-01-15T00:00:00Z (1768435200)"),
+            (T0, "only a date from 2026-01-01T00:00:00Z (1767225600) to 2026-01-14T23:59:59Z (1768435199) would do"),
+            (end - 1, "only a date from 2026-01-14T23:59:59Z (1768435199) to 2026-01-14T23:59:59Z "
+                      "(1768435199) would do"),
+            (end, "no date would do any more: the desk's clock is at 2026-01-15T00:00:00Z (1768435200)"),
         ):
             with self.subTest(clock=clock):
-                self.assertEqual(self.told("Ended", "vary", rows=clock_at(clock)), [head + text])
-        by_port = "only a date before 2026-01-15T00:00:00Z (1768435200) could do"
-        self.assertEqual(self.told("Ended", "vary"), [head + by_port])
+                self.assertEqual(self.sentences("Ended", "vary", rows=clock_at(clock)), [head + text])
+        by_port = "only a date before 2026-01-15T00:00:00Z (1768435200) would do"
+        self.assertEqual(self.sentences("Ended", "vary"), [head + by_port])
 
     def test_a_vote_that_came_late_has_the_end_of_the_voting(self):
-        told = "the voting on resolution 1 ended 2026-01-22T00:00:00Z (1769040000); only a date before"
-        found = self.told("Ended", "vote", status("Voting", voting=VOTING))
-        self.assertEqual([each[: len(told)] for each in found], [told])
+        message = "the voting on resolution 1 ended 2026-01-22T00:00:00Z (1769040000); only a date before"
+        found = self.sentences("Ended", "vote", status("Voting", voting=VOTING))
+        self.assertEqual([each[: len(message)] for each in found], [message])
 
     def test_a_choice_that_lapsed_did_so_a_day_after_it_became_short(self):
         short = status(choices=[choice(1), choice(2, short=T0 + 60)])
-        told = "choice 2 is short since 2026-01-01T00:01:00Z (1767225660), and lapsed 2026-01-02T00:01:00Z " \
-               "(1767312060); only a date before 2026-01-02T00:01:00Z (1767312060) could do"
-        self.assertEqual(self.told("Lapsed", "sponsor", short, {"choice": "2", "login": "bob"}), [told])
+        message = "choice 2 is short since 2026-01-01T00:01:00Z (1767225660), and lapsed 2026-01-02T00:01:00Z " \
+               "(1767312060); only a date before 2026-01-02T00:01:00Z (1767312060) would do"
+        self.assertEqual(self.sentences("Lapsed", "sponsor", short, {"choice": "2", "login": "bob"}), [message])
 
     def test_the_choices_and_the_places_are_numbered_to_the_last_one(self):
         one, two = status(), status(choices=[choice(1), choice(2)])
         three = status("Closed", [choice(1, place=1), choice(2, place=2), choice(3)])
-        self.assertEqual(self.told("NoChoice", "adopt", one), ["resolution 1 has choice 1 alone"])
-        self.assertEqual(self.told("NoChoice", "adopt", two), ["resolution 1 has the choices 1 to 2"])
-        self.assertEqual(self.told("NoChoice", "adopt", three), ["resolution 1 has the choices 1 to 3"])
-        self.assertEqual(self.told("NoChoice", "cast", three), ["the ballot of resolution 1 has the places 1 to 3"])
+        self.assertEqual(self.sentences("NoChoice", "adopt", one), ["resolution 1 has choice 1 alone"])
+        self.assertEqual(self.sentences("NoChoice", "adopt", two), ["resolution 1 has the choices 1 to 2"])
+        self.assertEqual(self.sentences("NoChoice", "adopt", three), ["resolution 1 has the choices 1 to 3"])
+        places = "the ballot of resolution 1 has the places 1 to 3"
+        self.assertEqual(self.sentences("NoChoice", "cast", three), [places])
 
     def test_ranks_are_counted_against_the_places_and_not_against_the_choices(self):
         of = status("Voting", [choice(1, place=1), choice(2), choice(3, place=2)])
-        self.assertEqual(self.told("BadRanks", "vote", of, {"login": "eve", "ranks": "1"}),
+        self.assertEqual(self.sentences("BadRanks", "vote", of, {"login": "eve", "ranks": "1"}),
                          ["the ballot of resolution 1 has 3 places, and the ranks have 1 character"])
-        self.assertEqual(self.told("BadRanks", "vote", of, {"login": "eve", "ranks": "1234"}),
+        self.assertEqual(self.sentences("BadRanks", "vote", of, {"login": "eve", "ranks": "1234"}),
                          ["the ballot of resolution 1 has 3 places, and the ranks have 4 characters"])
 
     def test_sponsors_and_proposers_are_named(self):
         of = status(choices=[choice(1, sponsors=["bob", "dan"]), choice(2, sponsors=[], proposer="leader")])
         sponsor = {"choice": "1", "login": "dan"}
-        self.assertEqual(self.told("Already", "sponsor", of, sponsor), ["dan sponsors choice 1"])
-        self.assertEqual(self.told("Already", "sponsor", of, {"choice": "1", "login": "eve"}),
+        self.assertEqual(self.sentences("Already", "sponsor", of, sponsor), ["dan sponsors choice 1"])
+        self.assertEqual(self.sentences("Already", "sponsor", of, {"choice": "1", "login": "eve"}),
                          ["eve proposes choice 1"])
-        self.assertEqual(self.told("NotSponsor", "unsponsor", of, sponsor),
+        self.assertEqual(self.sentences("NotSponsor", "unsponsor", of, sponsor),
                          ["the sponsors of choice 1 are: bob, dan"])
-        self.assertEqual(self.told("NotSponsor", "unsponsor", of, {"choice": "2", "login": "dan"}),
+        self.assertEqual(self.sentences("NotSponsor", "unsponsor", of, {"choice": "2", "login": "dan"}),
                          ["the sponsors of choice 2 are: none"])
-        self.assertEqual(self.told("HasProposer", "adopt", of, {"choice": "1", "author": "dan"}),
+        self.assertEqual(self.sentences("HasProposer", "adopt", of, {"choice": "1", "author": "dan"}),
                          ["choice 1 is proposed by eve"])
-        self.assertEqual(self.told("HasProposer", "adopt", of, {"choice": "2", "author": "dan"}),
+        self.assertEqual(self.sentences("HasProposer", "adopt", of, {"choice": "2", "author": "dan"}),
                          ["choice 2 is proposed by the leader"])
 
     def test_who_is_retired_is_named_with_the_act_that_changes_that(self):
-        told = "it is r1, Retired 1; developer with status=current changes that"
+        message = "it is r1, Retired 1; developer with status=current changes that"
         values, people = {"choice": "1", "login": "r1"}, roll(3, retired=1)
-        self.assertEqual(self.told("NotCurrent", "sponsor", None, values, people=people), [told])
+        self.assertEqual(self.sentences("NotCurrent", "sponsor", None, values, people=people), [message])
 
     def test_the_places_that_are_level_are_named_or_the_one_that_has_won(self):
         level, won = Outcome([1, 3], True), Outcome([2], False)
-        self.assertEqual(self.told("NotTied", "cast", outcome=level), ["in resolution 1 these places are level: 1, 3"])
-        self.assertEqual(self.told("NotTied", "cast", outcome=won), ["place 2 has won resolution 1"])
+        places = "in resolution 1 these places are level: 1, 3"
+        self.assertEqual(self.sentences("NotTied", "cast", outcome=level), [places])
+        self.assertEqual(self.sentences("NotTied", "cast", outcome=won), ["place 2 has won resolution 1"])
 
     def test_a_casting_vote_that_was_used_is_told_where_it_stands(self):
-        told = "the last line of the result of resolution 1 has the place that was chosen"
-        self.assertEqual(self.told("Already", "cast"), [told])
+        message = "the last line of the result of resolution 1 has the place that was chosen"
+        self.assertEqual(self.sentences("Already", "cast"), [message])
 
 
 class Variations(Case):
     """Which days would do, of a discussion that began at T0. Its end has to be 48 hours away at least."""
 
-    def told(self, at, changed=0):
+    def sentences(self, at, changed=0):
         rows = {**clock_at(T0), "resolution": {(1,): {"changed": changed}}}
         return list(refusal(case("vary", {"days": "-7"}, at=at, of=status(), rows=rows), "EndsTooSoon", None))[1:]
 
@@ -255,7 +257,7 @@ class Variations(Case):
             (T0 + 19 * DAY + 1, "no days would do at this date"),
         ):
             with self.subTest(at=at):
-                self.assertEqual(self.told(at), [text])
+                self.assertEqual(self.sentences(at), [text])
 
     def test_after_a_change_the_end_is_a_week_after_it_but_not_after_the_latest_end(self):
         # A change of day 10 ends on day 17 by itself: the latest end is 21 days and what varies them.
@@ -264,24 +266,24 @@ class Variations(Case):
             (T0 + 15 * DAY + 1, "days=4 to 7 would do at this date"),
         ):
             with self.subTest(at=at):
-                self.assertEqual(self.told(at, changed=T0 + 10 * DAY), [text])
+                self.assertEqual(self.sentences(at, changed=T0 + 10 * DAY), [text])
 
     def test_by_a_port_no_change_is_known_so_that_fewer_days_may_do(self):
-        told = list(refusal(case("vary", {"days": "-7"}, at=T0 + 12 * DAY, of=status()), "EndsTooSoon", None))[1:]
-        self.assertEqual(told, ["by the machine's clock days=0 to 7 would do, and maybe fewer"])
+        message = list(refusal(case("vary", {"days": "-7"}, at=T0 + 12 * DAY, of=status()), "EndsTooSoon", None))[1:]
+        self.assertEqual(message, ["by the machine's clock days=0 to 7 would do, and maybe fewer"])
 
 
 class Tried(Case):
     """A desk that is asked in a copy whether it would take the act at its clock."""
 
-    def told(self, code, line):
+    def sentences(self, code, line):
         act = case("close", of=status("Voting", voting=VOTING), rows=clock_at(VOTING[1]))
-        act.seen.desk = SimpleNamespace(tried=lambda request, at: SimpleNamespace(status=code, body=line))
+        act.view.desk = SimpleNamespace(tried=lambda request, at: SimpleNamespace(status=code, body=line))
         return list(refusal(act, "ClockBack", None))[1:]
 
     def test_an_act_that_would_be_taken_is_possible_from_the_clock_on(self):
-        self.assertEqual(self.told(200, b"ok 4\n"), ["possible from 2026-01-22T00:00:00Z (1769040000) on"])
+        self.assertEqual(self.sentences(200, b"ok 4\n"), ["possible from 2026-01-22T00:00:00Z (1769040000) on"])
 
     def test_an_act_that_would_be_refused_is_told_so_with_what_that_means(self):
-        told = "at the desk's clock, 2026-01-22T00:00:00Z (1769040000), it would be refused too: "
-        self.assertEqual(self.told(409, b"refused 5 BadRatio\n"), [f"{told}BadRatio: a ratio is 1 to 9"])
+        message = "at the desk's clock, 2026-01-22T00:00:00Z (1769040000), it would be refused too: "
+        self.assertEqual(self.sentences(409, b"refused 5 BadRatio\n"), [f"{message}BadRatio: a ratio is 1 to 9"])

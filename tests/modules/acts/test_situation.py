@@ -97,21 +97,21 @@ class EarlierDates(Case):
 
     END = T0 + 60
 
-    def told(self, clock):
+    def sentences(self, clock):
         rows = None if clock is None else {"desk": {(1,): {"clock": clock}}}
         return case("vary", of=status(), rows=rows).earlier(self.END)
 
     def test_from_the_clock_to_the_last_second_before_the_end(self):
-        self.assertEqual(self.told(T0), "only a date could do from 2026-01-01T00:00:00Z (1767225600) to "
-                                        "2026-01-01T00:00:59Z (1767225659)")
-        self.assertEqual(self.told(self.END - 1), "only a date could do from 2026-01-01T00:00:59Z (1767225659) to "
-                                                  "2026-01-01T00:00:59Z (1767225659)")
+        self.assertEqual(self.sentences(T0), "only a date from 2026-01-01T00:00:00Z (1767225600) to "
+                                        "2026-01-01T00:00:59Z (1767225659) would do")
+        self.assertEqual(self.sentences(self.END - 1), "only a date from 2026-01-01T00:00:59Z (1767225659) to "
+                                                  "2026-01-01T00:00:59Z (1767225659) would do")
 
     def test_none_any_more_from_the_end_on(self):
-        told = "no date could do any more, since the desk's clock is at 2026-01-01T00:01:0{}Z ({})"
+        message = "no date would do any more: the desk's clock is at 2026-01-01T00:01:0{}Z ({})"
         for clock, digit in (self.END, 0), (self.END + 1, 1):
             with self.subTest(clock=clock):
-                self.assertEqual(self.told(clock), told.format(digit, clock))
+                self.assertEqual(self.sentences(clock), message.format(digit, clock))
 
     def test_any_before_the_end_if_the_clock_is_not_known(self):
-        self.assertEqual(self.told(None), "only a date before 2026-01-01T00:01:00Z (1767225660) could do")
+        self.assertEqual(self.sentences(None), "only a date before 2026-01-01T00:01:00Z (1767225660) would do")

@@ -95,13 +95,19 @@ class Journaled:
         self.entries.take(line_of("answer", number=number, status=status, text=answer, after=None))
         return number
 
+    def replaced(self, arrival, resolution=1):
+        """A ballot that a later one replaced before it was sent."""
+        ranks, token = arrival.filled
+        what = {"login": arrival.login, "ranks": ranks, "token": token, "source": arrival.source}
+        self.entries.take(line_of("replaced", resolution=resolution, **what))
+
 
 def judged(arrivals, journal=None, **more):
     """A batch of these arrivals."""
     journal = journal or Journaled()
     roll = {f"d{number}": Developer(f"d{number}", number != 9, f"Name {number}") for number in range(1, 10)}
-    how = {"number": 1, "end": ENDED, "ends": [ENDED], "now": NOW, "clock": CALLED, "held": journal.held,
-           "entries": journal.entries, "told": set(), "roll": roll, **more}
+    how = {"number": 1, "end": ENDED, "ends": [ENDED], "now": NOW, "clock": CALLED, "stored": journal.held,
+           "entries": journal.entries, "reported": set(), "roll": roll, **more}
     batch = Batch(**how)
     batch.take(sorted(arrivals, key=lambda each: each.moment))
     return batch
@@ -109,7 +115,7 @@ def judged(arrivals, journal=None, **more):
 
 def cases_of(batch):
     """How it stands with each ballot, by the name of its mail."""
-    return {each.arrival.mail.name: each.case for each in batch.ballots}
+    return {each.arrival.mail.name: each.standing for each in batch.ballots}
 
 
 __all__ = ["CALLED", "ENDED", "HOUR", "NOW", "By", "CameMail", "Case", "Journaled", "arrived", "cases_of", "ends_in",

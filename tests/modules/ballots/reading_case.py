@@ -9,9 +9,9 @@ from tests.support.program import TOP
 
 sys.path.insert(0, str(TOP / "tools"))
 from grdesk.ballots.form import Form  # noqa: E402
-from grdesk.ballots.form_reader import read  # noqa: E402
+from grdesk.ballots.form_reader import read_form  # noqa: E402
 from grdesk.ballots.mail import Mail  # noqa: E402
-from grdesk.stop import NotRead  # noqa: E402
+from grdesk.error import NotRead  # noqa: E402
 
 FORM = Form(1, CALLED, ENDED, 4, tuple(PLACES))
 
@@ -25,7 +25,7 @@ def line_of(content):
     try:
         written = mail_of(content).written()
         signed = " signed" if written.is_signed else " unsigned"
-        return f"ok {read(FORM, written.text).ranks}{signed}"
+        return f"ok {read_form(FORM, written.text).ranks}{signed}"
     except NotRead as why:
         return f"refused {why}"
 

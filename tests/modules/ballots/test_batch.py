@@ -17,6 +17,7 @@ from tests.modules.ballots.judged import (
     mail_came,
     text_came,
 )
+from grdesk.ballots.mail import Mail
 
 IN_ADVANCE = 5 * HOUR
 
@@ -28,6 +29,12 @@ def stands(test, arrivals, expected, journal=None, **more):
     found = cases_of(batch)
     test.assertEqual([(name, found[name]) for name in names], list(zip(names, expected)))
     return batch
+
+
+def file_came(ranks, hours, **more):
+    """A mail of d1 that has the time of its file."""
+    mail = CameMail(f"came/{ranks}-{hours}", f"{ranks} {hours}", f"<{ranks}@example.net>", **more)
+    return arrived("d1", ranks, hours, None, mail, By.FILE)
 
 
 def why_of(batch, arrival):
@@ -61,13 +68,26 @@ class Moments(TestCase):
     def test_all_that_came_in_time_get_the_moment_of_the_last_one(self):
         self.assertEqual(self.moments([1, 2, 2, 7]), [7, 7, 7, 7])
 
-    def test_none_gets_a_moment_past_the_end_of_another_vote_before_which_it_came(self):
+    def test_what_came_after_the_end_of_another_vote_that_is_open_waits(self):
         ends = [CALLED + 2 * HOUR, CALLED + 6 * HOUR, ENDED]
-        self.assertEqual(self.moments([1, 1.5, 3, 5, 7, 8], ends=ends), [1.5, 1.5, 5, 5, 8, 8])
+        self.assertEqual(self.moments([1, 1.5, 3, 5, 7, 8], ends=ends), [1.5, 1.5])
+        arrivals = [mail_came("d1", "123", 1), mail_came("d2", "123", 3), mail_came("d3", "123", 7)]
+        batch = stands(self, arrivals, [Standing.TO_SEND, Standing.BEHIND, Standing.BEHIND], ends=ends)
+        self.assertFalse(batch.is_done())
+        self.assertEqual(batch.ends_before(arrivals[1].moment), ends[:1])
+        self.assertEqual(batch.ends_before(arrivals[2].moment), ends[:2])
 
     def test_one_that_came_at_the_end_of_another_vote_is_past_it(self):
         last = 2 - 1 / HOUR
-        self.assertEqual(self.moments([1, last, 2], ends=[CALLED + 2 * HOUR, ENDED]), [last, last, 2])
+        self.assertEqual(self.moments([1, last, 2], ends=[CALLED + 2 * HOUR, ENDED]), [last, last])
+
+    def test_nothing_waits_for_a_vote_whose_end_the_clock_of_the_desk_has_passed(self):
+        for clock in CALLED + 2 * HOUR, CALLED + 3 * HOUR:
+            self.assertEqual(self.moments([1, 5], ends=[CALLED + 2 * HOUR, ENDED], clock=clock), [5, 5])
+
+    def test_an_earlier_ballot_of_a_voter_is_replaced_by_one_that_waits(self):
+        arrivals = [mail_came("d1", "123", 1), mail_came("d1", "321", 3)]
+        stands(self, arrivals, [Standing.REPLACED, Standing.BEHIND], ends=[CALLED + 2 * HOUR, ENDED])
 
     def test_the_votes_that_are_open_end_after_the_days_of_their_calls(self):
         stages = {1: (2, 1_000, 7), 2: (1, 0, 0), 3: (2, 500, 7), 4: (3, 10, 7), 5: (2, 2_000, 21)}
@@ -103,20 +123,20 @@ class PassingRefusals(TestCase):
         for name in self.PASSING:
             with self.subTest(name=name):
                 [ballot] = self.refused(name, mail_came("d1", "123", 5)).ballots
-                self.assertEqual((ballot.case, ballot.token), (Standing.TO_SEND, "tokenA01"))
+                self.assertEqual((ballot.standing, ballot.token), (Standing.TO_SEND, "tokenA01"))
 
     def test_a_final_one_is_not_sent_again(self):
         for name in self.FINAL:
             with self.subTest(name=name):
                 [ballot] = self.refused(name, mail_came("d1", "123", 5)).ballots
-                self.assertEqual((ballot.case, ballot.why), (Standing.REFUSED, f"refused 7 {name}\n"))
+                self.assertEqual((ballot.standing, ballot.why), (Standing.REFUSED, f"refused 7 {name}\n"))
 
     def test_that_the_time_was_over_is_final_for_what_came_at_the_end_alone(self):
         hours = (ENDED - CALLED) / HOUR
         for at, case in (hours - 1 / HOUR, Standing.TO_SEND), (hours, Standing.REFUSED):
             with self.subTest(at=at):
                 [ballot] = self.refused("Ended", mail_came("d1", "123", at)).ballots
-                self.assertEqual(ballot.case, case)
+                self.assertEqual(ballot.standing, case)
 
     def test_what_is_no_refusal_of_a_desk_is_passing(self):
         journal, came = Journaled(), mail_came("d1", "123", 5)
@@ -148,7 +168,7 @@ class SentAgain(TestCase):
     def again(self, ranks, token, case, others=(), **more):
         again = mail_came("d1", ranks, 3, token, **more)
         batch = judged([*others, again], self.journal)
-        self.assertEqual(next(each.case for each in batch.ballots if each.arrival is again), case)
+        self.assertEqual(next(each.standing for each in batch.ballots if each.arrival is again), case)
         return batch, again
 
     def test_the_ranks_of_an_earlier_one_without_a_token_are_undecided(self):
@@ -206,6 +226,128 @@ class SentAgain(TestCase):
         self.again("123", None, Standing.TO_SEND)
 
 
+class ReplacedBeforeTheyWereSent(TestCase):
+    """A said 123 and B 321, and both came in one run: B was sent, and of A the journal has that B replaced it."""
+
+    def setUp(self):
+        self.first = mail_came("d1", "123", 1, "tokenA01")
+        self.last = mail_came("d1", "321", 2, "tokenB02")
+        self.journal = Journaled()
+        self.journal.replaced(self.first)
+
+    def test_its_token_or_its_ranks_without_a_token_are_undecided_under_another_message_id(self):
+        self.journal.vote(self.last, "tokenB02")
+        for ranks, token, what in ("123", "tokenA01", "token"), ("213", "tokenA01", "token"), ("123", None, "ranks"):
+            with self.subTest(ranks=ranks, token=token):
+                again = mail_came("d1", ranks, 3, token, number=7)
+                batch = stands(self, [again], [Standing.UNDECIDED], self.journal)
+                message = f"the {what} of the ballot that arrived 2026-01-15T01:00:00Z, before the last one"
+                self.assertIn(message, why_of(batch, again))
+
+    def test_a_form_without_a_token_is_known_by_its_ranks(self):
+        journal = Journaled()
+        journal.replaced(mail_came("d1", "123", 1))
+        journal.vote(self.last, "tokenB02")
+        stands(self, [mail_came("d1", "123", 3, number=7)], [Standing.UNDECIDED], journal)
+        stands(self, [mail_came("d1", "123", 3, "tokenC03")], [Standing.TO_SEND], journal)
+
+    def test_the_mail_itself_stays_replaced_and_the_journal_has_it_once(self):
+        self.journal.vote(self.last, "tokenB02")
+        batch = stands(self, [self.first, self.last], [Standing.REPLACED, Standing.COUNTED], self.journal)
+        self.assertEqual(batch.replaced_now(), [])
+
+    def test_each_that_is_replaced_is_to_be_kept_and_none_that_is_sent_refused_or_undecided(self):
+        came = [self.first, mail_came("d1", "213", 1.5), self.last, mail_came("d2", None, 3), mail_came("d3", "1--", 4)]
+        twice = [mail_came("d4", ranks, 5) for ranks in ("1--", "2--")]
+        batch = judged([*came, *twice])
+        self.assertEqual([each.arrival for each in batch.replaced_now()], came[:2])
+
+    def test_one_that_came_before_what_was_entered_is_to_be_kept_too(self):
+        journal = Journaled()
+        journal.vote(self.last, "tokenB02")
+        batch = stands(self, [self.first], [Standing.REPLACED], journal)
+        self.assertEqual([each.arrival for each in batch.replaced_now()], [self.first])
+
+    def test_two_that_were_replaced_are_both_known(self):
+        self.journal.replaced(mail_came("d1", "213", 1.5, "tokenC03"))
+        self.journal.vote(self.last, "tokenB02")
+        for ranks, token in ("123", "tokenA01"), ("213", "tokenC03"):
+            with self.subTest(ranks=ranks):
+                stands(self, [mail_came("d1", ranks, 3, token, number=7)], [Standing.UNDECIDED], self.journal)
+
+    def test_after_a_run_that_was_cut_before_the_last_one_was_sent_that_is_sent_now(self):
+        again = mail_came("d1", "123", 3, "tokenA01", number=7)
+        stands(self, [self.first, self.last], [Standing.REPLACED, Standing.TO_SEND], self.journal)
+        stands(self, [self.last, again], [Standing.TO_SEND, Standing.UNDECIDED], self.journal)
+
+    def test_where_the_last_one_was_refused_its_text_and_the_mail_itself_are_sent(self):
+        self.journal.vote(self.last, "tokenB02", "refused 22 BadRanks\n", status=409)
+        again = mail_came("d1", "123", 3, "tokenA01", number=7)
+        stands(self, [again], [Standing.TO_SEND], self.journal)
+        stands(self, [self.first, self.last], [Standing.TO_SEND, Standing.REFUSED], self.journal)
+
+    def test_where_a_vote_before_it_is_the_last_one_what_says_the_same_is_answered(self):
+        self.journal.vote(mail_came("d1", "213", 0.5, "tokenC03"), "tokenC03")
+        self.journal.vote(self.last, "tokenB02", "refused 22 BadRanks\n", status=409)
+        stands(self, [mail_came("d1", "213", 3, "tokenC03", number=7)], [Standing.COUNTED], self.journal)
+
+    def test_it_overtakes_nothing(self):
+        stands(self, [mail_came("d1", "213", 0.5)], [Standing.TO_SEND], self.journal)
+
+    def test_those_of_other_resolutions_and_voters_do_not_matter(self):
+        journal = Journaled()
+        journal.replaced(self.first, resolution=2)
+        journal.replaced(mail_came("d2", "123", 1))
+        journal.vote(self.last, "tokenB02")
+        stands(self, [mail_came("d1", "123", 3, number=7)], [Standing.TO_SEND], journal)
+
+    def test_a_file_with_another_time_has_that_of_the_journal(self):
+        journal = Journaled()
+        journal.replaced(file_came("123", 1))
+        journal.vote(file_came("321", 2), "tokenB02")
+        batch = stands(self, [file_came("123", 9)], [Standing.REPLACED], journal)
+        self.assertEqual([(each.is_moved, each.moment) for each in batch.ballots], [(True, CALLED + HOUR)])
+
+    def test_so_has_a_mail_that_the_host_got_again(self):
+        self.journal.vote(self.last, "tokenB02")
+        again = mail_came("d1", "123", 3, "tokenA01")
+        again.mail = self.first.mail
+        batch = stands(self, [again], [Standing.REPLACED], self.journal)
+        self.assertEqual([each.moment for each in batch.ballots], [CALLED + HOUR])
+
+    def test_a_time_that_the_host_gives_is_better_than_that_of_a_file_but_after_a_vote_it_is_undecided(self):
+        for entered, case in (True, Standing.UNDECIDED), (False, Standing.TO_SEND):
+            with self.subTest(entered=entered):
+                journal = Journaled()
+                journal.replaced(file_came("123", 1))
+                if entered:
+                    journal.vote(file_came("321", 2), "tokenB02")
+                mail = CameMail("came/123", "123 1", "<123@example.net>")
+                batch = stands(self, [arrived("d1", "123", 3, None, mail, By.HOST)], [case], journal)
+                self.assertEqual([each.moment for each in batch.ballots], [CALLED + 3 * HOUR])
+
+    def test_of_one_whose_time_tells_nothing_none_is_kept(self):
+        journal, moved = Journaled(), file_came("123", 8)
+        journal.vote(file_came("321", 2), "tokenB02")
+        [known] = judged([moved]).ballots
+        batch = stands(self, [moved, file_came("321", 7)], [Standing.REPLACED, Standing.COUNTED], journal,
+                       reported={known.digest()})
+        self.assertEqual(batch.replaced_now(), [])
+
+    def test_another_text_of_its_message_id_is_undecided(self):
+        journal = Journaled()
+        journal.replaced(mail_came("d1", "123", 1, number=8))
+        journal.vote(self.last, "tokenB02")
+        other = mail_came("d1", "213", 3, number=8)
+        batch = stands(self, [other], [Standing.UNDECIDED], journal)
+        self.assertIn("the same Message-ID, and says something else", why_of(batch, other))
+
+    def test_it_is_no_ballot_of_another_login(self):
+        other = mail_came("d8", "123", 3, "tokenA01", number=7)
+        batch = stands(self, [other], [Standing.WHOSE], self.journal)
+        self.assertEqual(why_of(batch, other), "the same text with its token is also that of d1 (by the journal)")
+
+
 class OtherTexts(TestCase):
     """Two texts of one Message-ID."""
 
@@ -238,7 +380,7 @@ class OtherTexts(TestCase):
 
     def test_a_mail_that_came_twice_is_one_ballot(self):
         batch = judged([mail_came("d1", "123", hours, number=8) for hours in (2, 1)])
-        self.assertEqual([(each.case, each.moment) for each in batch.ballots], [(Standing.TO_SEND, CALLED + HOUR)])
+        self.assertEqual([(each.standing, each.moment) for each in batch.ballots], [(Standing.TO_SEND, CALLED + HOUR)])
 
 
 class TwoLogins(TestCase):
@@ -301,8 +443,38 @@ class TwoLogins(TestCase):
                 if case is Standing.WHOSE:
                     self.assertEqual(why_of(batch, came), "its From is that of d8")
 
+    def test_of_several_addresses_in_a_from_each_is_looked_at(self):
+        for head, case in {
+            "From: d1@example.org, d8@example.org": Standing.WHOSE,
+            "From: d1@example.org\nSubject: x\nFrom: The Eighth <d8@example.org>": Standing.WHOSE,
+            "From: x@example.net\nFrom: y@example.net\nFrom: d8@EXAMPLE.org": Standing.WHOSE,
+            "From: All: d1@example.org, d8@example.org;": Standing.WHOSE,
+            "From: (d1@example.org) d8 (X) @example.org": Standing.WHOSE,
+            "From: <d1@example.org> <d8@example.org>": Standing.WHOSE,
+            "From: <@relay.example.net:d8@example.org>": Standing.WHOSE,
+            "From: The First <d1@example.org>, x@example.net": Standing.TO_SEND,
+            "From: (d8@example.org) d1@example.org": Standing.TO_SEND,
+            'From: "d8@example.org" <d1@example.org>': Standing.TO_SEND,
+            "From: d8@example.org <d1@example.org>": Standing.TO_SEND,
+            "From: =?utf-8?q?d8=40example.org?= <d1@example.org>": Standing.TO_SEND,
+            "From: =?utf-8?q?=3Cd8=40example.org=3E?= <d1@example.org>": Standing.TO_SEND,
+            "From: d1@example.org\nReply-To: d8@example.org\nSender: d8@example.org": Standing.TO_SEND,
+        }.items():
+            with self.subTest(head=head):
+                mail = Mail("came/d1.eml", f"{head}\nMessage-ID: <1@example.net>\n\nx\n".encode(), CALLED)
+                came = arrived("d1", "123", 1, None, mail, By.HOST)
+                batch = stands(self, [came], [case], domain="example.org")
+                if case is Standing.WHOSE:
+                    self.assertEqual(why_of(batch, came), "its From is that of d8")
+
     def test_without_a_domain_nothing_is_known_of_a_from(self):
         stands(self, [mail_came("d1", "123", 1, sender="d8@example.org")], [Standing.TO_SEND])
+
+
+class OneMailOnTwoVotes(TestCase):
+    def test_that_it_is_replaced_on_one_vote_says_nothing_of_the_other(self):
+        digests = {judged([mail_came("d1", "123", 1)], number=number).ballots[0].digest() for number in (1, 2)}
+        self.assertEqual(len(digests), 2)
 
 
 class Gone(TestCase):
@@ -348,44 +520,40 @@ class Clocks(TestCase):
     """Ballots of one voter whose times are those of different clocks. The time of a file may be long after its mail
     came, and that of an mbox is when any mail was put there."""
 
-    def file_came(self, ranks, hours, **more):
-        mail = CameMail(f"came/{ranks}-{hours}", f"{ranks} {hours}", f"<{ranks}@example.net>", **more)
-        return arrived("d1", ranks, hours, None, mail, By.FILE)
-
     def entered(self, arrival):
         journal = Journaled()
         journal.vote(arrival, "tokenA01")
         return journal
 
     def test_a_file_with_a_later_time_than_a_mail_of_the_host_is_left_to_the_secretary_and_so_is_that(self):
-        stands(self, [mail_came("d1", "321", 2), self.file_came("123", 3)], 2 * [Standing.UNDECIDED])
+        stands(self, [mail_came("d1", "321", 2), file_came("123", 3)], 2 * [Standing.UNDECIDED])
 
     def test_a_file_with_an_earlier_time_is_replaced_by_a_mail_of_the_host(self):
-        stands(self, [self.file_came("123", 1), mail_came("d1", "321", 2)], [Standing.REPLACED, Standing.TO_SEND])
+        stands(self, [file_came("123", 1), mail_came("d1", "321", 2)], [Standing.REPLACED, Standing.TO_SEND])
 
     def test_of_two_files_the_later_one_is_sent(self):
-        stands(self, [self.file_came("123", 1), self.file_came("321", 2)], [Standing.REPLACED, Standing.TO_SEND])
+        stands(self, [file_came("123", 1), file_came("321", 2)], [Standing.REPLACED, Standing.TO_SEND])
 
     def test_what_is_in_an_mbox_does_not_replace_what_was_entered(self):
-        came = self.file_came("123", 9, is_in_box=True)
-        for first in mail_came("d1", "321", 2), self.file_came("321", 2), self.file_came("321", 2, is_in_box=True):
+        came = file_came("123", 9, is_in_box=True)
+        for first in mail_came("d1", "321", 2), file_came("321", 2), file_came("321", 2, is_in_box=True):
             with self.subTest(by=first.clock):
                 stands(self, [came], [Standing.UNDECIDED], self.entered(first))
 
     def test_without_a_host_an_old_mail_does_not_replace_one_whose_time_the_host_gave(self):
-        stands(self, [self.file_came("123", 9)], [Standing.UNDECIDED], self.entered(mail_came("d1", "321", 2)))
+        stands(self, [file_came("123", 9)], [Standing.UNDECIDED], self.entered(mail_came("d1", "321", 2)))
 
     def test_a_mail_of_the_host_is_not_passed_over_for_a_file_with_a_later_time(self):
-        stands(self, [mail_came("d1", "321", 2)], [Standing.UNDECIDED], self.entered(self.file_came("123", 9)))
+        stands(self, [mail_came("d1", "321", 2)], [Standing.UNDECIDED], self.entered(file_came("123", 9)))
 
     def test_the_same_ballot_by_two_clocks_is_one(self):
-        stands(self, [self.file_came("321", 9)], [Standing.COUNTED], self.entered(mail_came("d1", "321", 2)))
+        stands(self, [file_came("321", 9)], [Standing.COUNTED], self.entered(mail_came("d1", "321", 2)))
 
     def test_the_journal_keeps_whose_time_it_is(self):
-        kinds = [mail_came("d1", "1--", 1), self.file_came("1--", 1), self.file_came("1--", 1, is_in_box=True)]
+        kinds = [mail_came("d1", "1--", 1), file_came("1--", 1), file_came("1--", 1, is_in_box=True)]
         self.assertEqual([each.source["clock"] for each in kinds], ["host", "file", "box"])
 
     def test_a_mail_with_a_field_received_is_not_late_by_its_file(self):
-        late = self.file_came("123", (ENDED - CALLED) / HOUR, has_received=True)
+        late = file_came("123", (ENDED - CALLED) / HOUR, has_received=True)
         batch = stands(self, [late], [Standing.UNDECIDED])
-        self.assertIn("--received-by HOST", why_of(batch, late))
+        self.assertIn("its field Received is not taken", why_of(batch, late))

@@ -8,7 +8,7 @@ from tests.support.hand_made import VOTING, choice, status
 from tests.support.in_process import stopped
 from tests.support.program import DAY, T0
 from grdesk.ballots.form import Form, folded, form_of, placed_in
-from grdesk.stop import Refused
+from grdesk.error import Refused
 
 FORM = Form(12, VOTING[0], VOTING[1], 16, ("Red", "Green: or Blue", "None of the above"))
 # The lines of which the identifier is the SHA-256, by docs/formats.md: number, begin, days, developers and options.
@@ -92,7 +92,7 @@ class OfStatuses(Case):
 
     def test_before_the_call_there_is_none(self):
         stages = {"Draft": "is a draft", "Discussing": "is under discussion", "Cancelled": "is cancelled"}
-        for stage, told in stages.items():
+        for stage, message in stages.items():
             with self.subTest(stage=stage):
                 self.assertEqual(stopped(Refused, form_of, status(stage, number=12)),
-                                 f"resolution 12 {told}, and has no ballot before it is called")
+                                 f"resolution 12 {message}, and has no ballot before it is called")

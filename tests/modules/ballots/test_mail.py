@@ -15,9 +15,9 @@ from tests.support.called import CALLED
 from tests.support.program import TOP
 
 sys.path.insert(0, str(TOP / "tools"))
-from grdesk.ballots.form_reader import read  # noqa: E402
-from grdesk.ballots.mail_head import ALIASES  # noqa: E402
-from grdesk.stop import NotRead  # noqa: E402
+from grdesk.ballots.form_reader import read_form  # noqa: E402
+from grdesk.error import NotRead  # noqa: E402
+from grdesk.mail_head import ALIASES  # noqa: E402
 
 HOST = "vote.example.org"
 DATE = "Thu, 15 Jan 2026 02:00:00 +0000"
@@ -60,7 +60,8 @@ class Arrivals(ReadingCase):
             with self.subTest(helo=helo):
                 self.arrived(AT, f"from {helo} ([192.0.2.1]) by {HOST} (Postfix) with SMTP id 1; {DATE}")
                 self.arrived(None, f"from {helo} ([192.0.2.1]) by mx.example.net (Postfix) with SMTP id 1; {DATE}")
-        for address in (f"<by {HOST}@example.net>", f"<x by {HOST} >", f'<"x> by {HOST} <"@example.net>', f"(by {HOST})",
+        for address in (f"<by {HOST}@example.net>", f"<x by {HOST} >", f'<"x> by {HOST} <"@example.net>',
+                        f"(by {HOST})",
                         f'"by {HOST}"'):
             self.arrived(None, f"from x by mx.example.net for {address}; {DATE}")
             self.arrived(AT, f"from x by {HOST} for {address.replace(HOST, 'x')}; {DATE}")
@@ -135,6 +136,17 @@ class Mails(ReadingCase):
             "X\r\n <d1@example.org>": ["d1@example.org"],
             '<"d1"@example.org>': ["d1@example.org"],
             '"X <d1@example.org>': ["d1@example.org"],
+            # Of all that may be the address of a sender, each is one.
+            "<d1@example.org> <d2@example.org>": ["d1@example.org", "d2@example.org"],
+            "<d1@example.org> d2@example.org": ["d1@example.org", "d2@example.org"],
+            "<d1(d2@example.org)@example.org>": ["d1@example.org"],
+            "d1 (X) @ (Y) example.org": ["d1@example.org"],
+            "<@relay.example.net,@b:d1@example.org>": ["d1@example.org"],
+            "All:d1@example.org;, <d2@example.org>": ["d1@example.org", "d2@example.org"],
+            # An encoded name is no address, also if it looks like one.
+            "=?utf-8?q?d2=40example.org?= <d1@example.org>": ["d1@example.org"],
+            "=?utf-8?q?=3Cd2=40example.org=3E?= <d1@example.org>": ["d1@example.org"],
+            "=?utf-8?b?ZDJAZXhhbXBsZS5vcmc=?=": [],
             "nobody": [],
             "": [],
         }.items():
@@ -167,7 +179,8 @@ class Mails(ReadingCase):
                 self.assertIn('and is "[ 1 ] Choice 2: Gr\u00fcn,', line_of(content))
 
     def test_a_charset_that_is_not_on_the_list_is_refused_at_once(self):
-        for charset in "punycode", "utf-16", "utf-7", "idna", "unicode_escape", "hex", "rot13", "big5", "iso-8859-12", "":
+        others = "punycode", "utf-16", "utf-7", "idna", "unicode_escape", "hex", "rot13", "big5", "iso-8859-12", ""
+        for charset in others:
             with self.subTest(charset=charset):
                 began = time.process_time()
                 content = mail("x" * 600_000 + FILLED, f'Content-Type: text/plain; charset="{charset}"')
@@ -281,7 +294,8 @@ class Hostile(ReadingCase):
                 self.assertLess(took, MOST_STEPS * steps, f"it takes as long as {took / steps:.1f} million small steps")
 
     def test_what_is_too_large_or_too_deep_is_refused_by_name(self):
-        self.assertEqual(line_of(b"x" * 10_000_001), "refused the mail has more than 10,000,000 bytes; send only the form")
+        why = "refused the mail has more than 10,000,000 bytes; send only the form"
+        self.assertEqual(line_of(b"x" * 10_000_001), why)
         self.assertEqual(line_of(mail(FILLED + "x" * (9_999_000 - len(FILLED)))), "ok 21- unsigned")
         many = parts("mixed", *[plain()] * 501)
         self.assertEqual(line_of(many), "refused the mail has more than 500 parts")
@@ -311,7 +325,7 @@ class Hostile(ReadingCase):
                 came = mail_of(bytes(content))
                 asked_all(came)
                 try:
-                    filled = read(FORM, came.written().text)
+                    filled = read_form(FORM, came.written().text)
                 except NotRead as why:
                     self.assertNotIn("cannot be read as a mail", str(why))
                 else:

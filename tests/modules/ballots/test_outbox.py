@@ -15,7 +15,7 @@ from tests.support.program import TOP
 
 sys.path.insert(0, str(TOP / "tools"))
 from grdesk.ballots.outbox import WRITTEN, Outbox  # noqa: E402
-from grdesk.stop import Failed, Refused  # noqa: E402
+from grdesk.error import Failed, Refused  # noqa: E402
 
 LOGINS = "d1", "d2", "d3"
 # How many bytes a file may have on a disk that is full.
@@ -126,7 +126,7 @@ class FullDisks(Case):
         self.assertEqual(named, f"{self.place}/{WRITTEN}")
         self.assertFalse(self.box.has(digests[50]))
         self.box.keep(digests[:2])
-        self.assertEqual(Outbox(str(self.place)).known, {"0" * 64, *digests[:2]})
+        self.assertEqual(Outbox(str(self.place)).digests, {"0" * 64, *digests[:2]})
 
 
 class Places(Case):
@@ -137,8 +137,10 @@ class Places(Case):
         link.symlink_to(place)
         self.addCleanup(link.unlink)
         for name in str(link), f"{link}/":
-            with self.subTest(name=name), self.assertRaises(Failed):
+            with self.subTest(name=name), self.assertRaises(Failed) as raised:
                 Outbox(name)
+            why = "it is a link, and no link is followed: name the folder itself"
+            self.assertEqual(str(raised.exception), f"{name} cannot be used as an outbox: {why}")
         self.assertEqual(os.listdir(place), [])
 
     def test_an_outbox_of_another_account_is_refused(self):

@@ -1,6 +1,7 @@
 """The modes of an outbox: its owner alone may read what is in it, whatever the umask, no mail is written twice, and a
 folder that others may enter is none."""
 import os
+import signal
 import stat
 import sys
 from email.message import EmailMessage
@@ -12,8 +13,10 @@ from tests.support.program import TOP
 
 sys.path.insert(0, str(TOP / "tools"))
 from grdesk.ballots.outbox import Outbox, mail_of  # noqa: E402
-from grdesk.stop import Refused  # noqa: E402
+from grdesk.error import Failed, Refused  # noqa: E402
 
+# How long something may take that waits for nothing, in seconds.
+SOON = 30
 DIGEST = "0123456789abcdef" * 4
 
 
@@ -54,8 +57,8 @@ class Modes(Case):
                 place = self.folder() / "outbox"
                 place.mkdir()
                 place.chmod(mode)
-                told = f"nothing was done: other accounts may enter {place}, which tells who voted how: chmod 700 it"
-                self.assertEqual(stopped(Refused, Outbox, str(place)), told)
+                message = f"nothing was done: other accounts may enter {place}, which shows who voted how: chmod 700 it"
+                self.assertEqual(stopped(Refused, Outbox, str(place)), message)
                 self.assertEqual(list(place.iterdir()), [])
 
     def test_a_folder_of_its_owner_alone_is_taken_if_it_is_empty(self):
@@ -66,8 +69,19 @@ class Modes(Case):
         other = self.folder() / "other"
         other.mkdir(mode=0o700)
         (other / "letter").write_text("")
-        told = f"nothing was done: {other} is no outbox, and is not empty"
-        self.assertEqual(stopped(Refused, Outbox, str(other)), told)
+        message = f"nothing was done: {other} is not empty, and is not an outbox: name a new folder"
+        self.assertEqual(stopped(Refused, Outbox, str(other)), message)
+
+    def test_an_outbox_whose_list_of_mails_is_no_file_is_refused_and_not_waited_for(self):
+        before = signal.signal(signal.SIGALRM, lambda *_: self.fail("it waits"))
+        self.addCleanup(signal.signal, signal.SIGALRM, before)
+        self.addCleanup(signal.alarm, 0)
+        signal.alarm(SOON)
+        place = self.folder() / "outbox"
+        place.mkdir(mode=0o700)
+        os.mkfifo(place / ".written")
+        message = f"{place} cannot be used as an outbox: {place}/.written is no file; remove it"
+        self.assertEqual(stopped(Failed, Outbox, str(place)), message)
 
 
 class Once(Case):

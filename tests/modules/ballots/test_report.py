@@ -92,4 +92,4 @@ class Lines(TestCase):
     def test_a_form_that_is_not_read_has_no_line(self):
         [ballot] = judged([mail_came("d1", None, 1)]).ballots
         [said] = self.remedy().lines(ballot)
-        self.assertIn("its form is not read, since all boxes are empty", said)
+        self.assertIn("its form cannot be read: all boxes are empty. Ask the voter", said)

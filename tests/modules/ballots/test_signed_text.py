@@ -223,7 +223,7 @@ class ArmourLines(Case):
 @cache
 def why_no_gpg():
     missing = [name for name in ("gpg", "gpgv", "gpgconf") if not shutil.which(name)]
-    return f"{', '.join(missing)} is not there" if missing else None
+    return f"{', '.join(missing)} is not installed" if missing else None
 
 
 class Gpg(ReadingCase):

@@ -15,7 +15,7 @@ from tests.support.program import TOP
 sys.path.insert(0, str(TOP / "tools"))
 from grdesk.desk import copy  # noqa: E402
 from grdesk.desk.retention import DatedCopy  # noqa: E402
-from grdesk.stop import Refused  # noqa: E402
+from grdesk.error import Refused  # noqa: E402
 
 PARTS = "desk.db", "desk.db-wal", "desk.db.sha256"
 FILE, LOG = b"a file\n" * 999, b"the head of a log" * 99
@@ -118,8 +118,8 @@ class Cuts(Case):
                     self.place = self.folder()
                     taken = self.place / name
                     with mock.patch.object(copy, "check_opens", lambda *_, make=make: make(taken)):
-                        told = self.refused(lambda: copy.copy_to(str(self.desk), str(self.place / "desk.db"), True))
-                    self.assertEqual((told, os.listdir(self.place)), (f"{taken} is there", [name]))
+                        message = self.refused(lambda: copy.copy_to(str(self.desk), str(self.place / "desk.db"), True))
+                    self.assertEqual((message, os.listdir(self.place)), (f"{taken} already exists", [name]))
 
     def refused(self, does):
         """Why something is refused, or what else comes of it."""

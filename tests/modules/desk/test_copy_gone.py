@@ -9,7 +9,7 @@ from tests.support.program import TOP
 
 sys.path.insert(0, str(TOP / "tools"))
 from grdesk.desk import copy as copies, sheet  # noqa: E402
-from grdesk.stop import Failed  # noqa: E402
+from grdesk.error import Failed  # noqa: E402
 
 
 class NoFile(Case):
@@ -35,8 +35,8 @@ class NoFile(Case):
         copy = str(self.work / "desk")
         with self.assertRaises(Failed) as raised:
             sheet.FileSheets(copy, "desk.db").sheet("roll")
-        told = f"no file: {copy}, the private copy of desk.db, was removed"
-        self.assertEqual((str(raised.exception), self.said), (told, []))
+        message = f"no file: {copy}, the private copy of desk.db, was removed"
+        self.assertEqual((str(raised.exception), self.said), (message, []))
 
     def test_what_else_the_program_says_is_handed_on(self):
         self.program.write_text("#!/bin/sh\necho 'fault F2 Store' >&2\nexit 3\n")

@@ -17,7 +17,7 @@ TOOLS = str(TOP / "tools")
 sys.path.insert(0, TOOLS)
 from grdesk.desk import private_folder as private_places  # noqa: E402
 from grdesk.desk.private_folder import private_folder  # noqa: E402
-from grdesk.stop import Refused  # noqa: E402
+from grdesk.error import Refused  # noqa: E402
 
 STRANGER = 54_321
 # More bytes than any disk has.
@@ -95,7 +95,7 @@ class Places(PrivatePlaces):
 
     def test_a_folder_for_copies_that_is_open_to_others_is_refused_by_name_with_what_to_do(self):
         self.below.mkdir(mode=0o755)
-        said = f"nothing was done: {self.below}, where private copies of a desk lie, may be entered by other accounts"
+        said = f"no private copy of a desk can be made: {self.below} may be entered by other accounts"
         self.assertEqual(self.refused(), f"{said}: chmod 700 {self.below}")
         self.assertEqual(os.listdir(self.below), [])
         self.below.chmod(0o700)
@@ -105,7 +105,7 @@ class Places(PrivatePlaces):
         elsewhere = self.folder()
         for make in lambda: self.below.symlink_to(elsewhere), self.below.touch:
             make()
-            said = f"nothing was done: {self.below}, where private copies of a desk lie, is no folder"
+            said = f"no private copy of a desk can be made: {self.below} is no folder"
             self.assertEqual(self.refused(), f"{said}: remove it, or set TMPDIR to a folder of your own")
             self.below.unlink()
         self.assertEqual(os.listdir(elsewhere), [])
@@ -115,7 +115,7 @@ class Places(PrivatePlaces):
             self.skipTest("only root can give a folder to another account")
         self.below.mkdir(mode=0o700)
         os.chown(self.below, STRANGER, -1)
-        said = f"nothing was done: {self.below}, where private copies of a desk lie, belongs to another account"
+        said = f"no private copy of a desk can be made: {self.below} belongs to another account"
         self.assertEqual(self.refused(), f"{said}: remove it, or set TMPDIR to a folder of your own")
 
 

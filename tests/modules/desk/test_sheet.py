@@ -4,12 +4,12 @@ import sys
 
 from tests.support.case import Case
 from tests.support.in_process import stopped
-from tests.support.program import T0, TOP
+from tests.support.program import DAY, T0, TOP
 
 sys.path.insert(0, str(TOP / "tools"))
 from grdesk.desk.sheet import Choice, Developer, outcome_of, proposer_of, roll_of, status_of  # noqa: E402
+from grdesk.error import Failed  # noqa: E402
 from grdesk.output import counted, shown  # noqa: E402
-from grdesk.stop import Failed  # noqa: E402
 
 ROLL = """\
 Developers: 4
@@ -44,7 +44,7 @@ Short since: no
 Place: 1
 | x
 """
-CUT = "{} is none of such a sheet, so what answers is no desk"
+CUT = "{} does not fit such a sheet, so what answers is no desk"
 
 
 class Rolls(Case):
@@ -60,14 +60,14 @@ class Rolls(Case):
         self.assertEqual(roll_of("Developers: 0\nCurrent: 0\n"), [])
 
     def test_a_line_of_another_form_and_a_roll_that_is_cut_off_are_told(self):
-        for text, told in (
+        for text, message in (
             (ROLL.replace("bob retired", "bob gone"), CUT.format("line 4 of the roll")),
             (ROLL.replace("Current: 2\n", ""), CUT.format("line 2 of the roll")),
             (ROLL + "More\n", CUT.format("line 7 of the roll")),
             (ROLL[:-1], "the roll has no end"),
         ):
-            with self.subTest(told=told):
-                self.assertEqual(stopped(Failed, roll_of, text), told)
+            with self.subTest(message=message):
+                self.assertEqual(stopped(Failed, roll_of, text), message)
 
 
 class Statuses(Case):
@@ -89,10 +89,10 @@ class Statuses(Case):
         self.assertEqual((status.stage, status.discussion, status.voting, status.developers), ("Draft", *(None,) * 3))
 
     def test_the_status_of_another_resolution_and_a_choice_that_is_cut_off_are_told(self):
-        told = CUT.format("line 1 of the status of resolution 8")
-        self.assertEqual(stopped(Failed, status_of, 8, STATUS), told)
-        told = CUT.format("line 20 of the status of resolution 7")
-        self.assertEqual(stopped(Failed, status_of, 7, STATUS.replace("Introduced: no\n", "")), told)
+        message = CUT.format("line 1 of the status of resolution 8")
+        self.assertEqual(stopped(Failed, status_of, 8, STATUS), message)
+        message = CUT.format("line 20 of the status of resolution 7")
+        self.assertEqual(stopped(Failed, status_of, 7, STATUS.replace("Introduced: no\n", "")), message)
 
 
 class Outcomes(Case):
@@ -116,7 +116,21 @@ class Shown(Case):
 
     def test_who_proposes_a_choice_is_told(self):
         of = Choice(1, "x", 1, "none", [], None, None, None, [])
-        for proposer, told in (("developer e\u202eve", "proposed by e<U+202E>ve"), ("none", "nobody proposes it"),
+        for proposer, message in (("developer e\u202eve", "proposed by e<U+202E>ve"), ("none", "nobody proposes it"),
                                ("leader", "proposed by the leader"), ("committee", "proposed by the committee")):
             with self.subTest(proposer=proposer):
-                self.assertEqual(proposer_of(of._replace(proposer=proposer)), told)
+                self.assertEqual(proposer_of(of._replace(proposer=proposer)), message)
+
+
+class Choices(Case):
+    def test_only_a_developer_who_proposes_a_choice_has_a_login(self):
+        of = Choice(1, "x", 1, "none", [], None, None, None, [])
+        for proposer, login in (("developer eve", "eve"), ("developer developer", "developer"), ("none", None),
+                                ("leader", None), ("committee", None)):
+            with self.subTest(proposer=proposer):
+                self.assertEqual(of._replace(proposer=proposer).developer, login)
+
+    def test_a_short_one_lapses_a_day_after_it_became_short_and_no_other_one_does(self):
+        of = Choice(1, "x", 1, "none", [], T0, None, None, [])
+        self.assertIsNone(of.lapse)
+        self.assertEqual(of._replace(short=T0).lapse, T0 + DAY)

@@ -9,9 +9,9 @@ from tests.support.in_process import stopped
 from tests.support.program import TOP
 
 sys.path.insert(0, str(TOP / "tools"))
+from grdesk.error import Failed  # noqa: E402
 from grdesk.package import control  # noqa: E402
 from grdesk.package.archive import PackedFile  # noqa: E402
-from grdesk.stop import Failed  # noqa: E402
 
 
 C, M, GCC = "libc.so.6", "libm.so.6", "libgcc_s.so.1"
@@ -44,8 +44,8 @@ class Libraries(Case):
         self.assertEqual(needs({C: ["GLIBC_PRIVATE", "GLIBC_2.4"]}), ["libc6 (>= 2.4)"])
 
     def test_a_library_of_no_known_package_is_named(self):
-        told = "the program needs the library libodd.so.1, of which no package is known here"
-        self.assertEqual(stopped(Failed, needs, {C: ["GLIBC_2.4"], "libodd.so.1": ["ODD_1.0"]}), told)
+        message = "the program needs the library libodd.so.1, of which no package is known here"
+        self.assertEqual(stopped(Failed, needs, {C: ["GLIBC_2.4"], "libodd.so.1": ["ODD_1.0"]}), message)
 
 
 class Room(Case):

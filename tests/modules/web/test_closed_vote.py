@@ -7,7 +7,7 @@ from tests.support.in_process import stopped
 from tests.support.program import TOP
 
 sys.path.insert(0, str(TOP / "tools"))
-from grdesk.stop import Failed  # noqa: E402
+from grdesk.error import Failed  # noqa: E402
 from grdesk.web.closed_vote import vote_of  # noqa: E402
 
 RECEIPTS = "a" * 64, "b" * 64, "c" * 64
@@ -98,13 +98,13 @@ class Lines(Case):
 
     def test_as_many_may_be_received_as_there_are_ballots_and_not_one_less(self):
         self.assertEqual(read(result=replaced(RESULT, ("Received: 5", "Received: 3"))).received, 3)
-        told = stopped(Failed, read, TALLY, replaced(RESULT, ("Received: 5", "Received: 2")))
-        self.assertEqual(told, "the result says that 2 votes were received, and has 3 ballots")
+        message = stopped(Failed, read, TALLY, replaced(RESULT, ("Received: 5", "Received: 2")))
+        self.assertEqual(message, "the result says that 2 votes were received, and has 3 ballots")
 
 
 class Kept(Case):
     def test_what_the_tests_kept_and_the_default_option_are_kept(self):
-        self.assertEqual(read().kept(), [1, 2, 4])
+        self.assertEqual(read().kept_options(), [1, 2, 4])
 
     def test_a_defeat_is_of_the_greater_count_and_has_the_round_that_dropped_it(self):
         self.assertEqual(read().defeats(), {(1, 2): 1, (1, 4): 2, (4, 2): 2})
@@ -133,11 +133,11 @@ class Others(Case):
                 self.assertEqual(stopped(Failed, read, tally, result), self.NO_VOTE)
 
     def test_sheets_of_another_resolution_are_told(self):
-        told = "line 1 of the {} of resolution 7 is none of such a sheet, so what answers is no desk"
+        message = "line 1 of the {} of resolution 7 does not fit such a sheet, so what answers is no desk"
         other = replaced(TALLY, ("Tally of resolution 7", "Tally of resolution 8"))
-        self.assertEqual(stopped(Failed, read, other), told.format("tally"))
+        self.assertEqual(stopped(Failed, read, other), message.format("tally"))
         other = replaced(RESULT, ("Result of resolution 7", "Result of resolution 8"))
-        self.assertEqual(stopped(Failed, read, TALLY, other), told.format("result"))
+        self.assertEqual(stopped(Failed, read, TALLY, other), message.format("result"))
 
     def test_an_option_that_is_not_there_or_was_not_kept_is_in_no_pair_and_no_outcome_and_wins_nothing(self):
         for change in (
@@ -155,18 +155,18 @@ class Others(Case):
     def test_a_round_drops_no_defeat_with_other_counts_than_its_pair(self):
         for old, new in ("1>2 21:20", "1>2 20:21"), ("1>2 21:20", "2>1 21:20"), ("1>2 21:20", "1>3 21:20"):
             with self.subTest(new=new):
-                told = stopped(Failed, read, TALLY, replaced(RESULT, (old, new)))
+                message = stopped(Failed, read, TALLY, replaced(RESULT, (old, new)))
                 a, b = new.split()[0].split(">")
-                self.assertEqual(told, f"round 1 of the result has another count of {a} and {b} than their pair")
+                self.assertEqual(message, f"round 1 of the result has another count of {a} and {b} than their pair")
 
     def test_a_line_too_many_a_line_too_few_and_a_sheet_that_is_cut_off_are_told(self):
-        for tally, result, told in (
-            (TALLY + "V: x\n", RESULT, "line 10 of the tally of resolution 7 is none of such a sheet"),
+        for tally, result, message in (
+            (TALLY + "V: x\n", RESULT, "line 10 of the tally of resolution 7 does not fit such a sheet"),
             (TALLY[:-1], RESULT, "the tally of resolution 7 has no end"),
-            (TALLY, RESULT + "More\n", "line 20 of the result of resolution 7 is none of such a sheet"),
+            (TALLY, RESULT + "More\n", "line 20 of the result of resolution 7 does not fit such a sheet"),
             (TALLY, RESULT[:-1], "the result of resolution 7 has no end"),
-            (TALLY, RESULT[: RESULT.index("Winner")], "line 19 of the result of resolution 7 is none of such a sheet"),
-            (replaced(TALLY, ("V: 12-a ", "V: 12-A ")), RESULT, "line 7 of the tally of resolution 7 is none of such"),
+            (TALLY, RESULT[: RESULT.index("Winner")], "line 19 of the result of resolution 7 does not fit such a"),
+            (replaced(TALLY, ("V: 12-a ", "V: 12-A ")), RESULT, "line 7 of the tally of resolution 7 does not fit"),
         ):
-            with self.subTest(told=told):
-                self.assertEqual(stopped(Failed, read, tally, result)[: len(told)], told)
+            with self.subTest(message=message):
+                self.assertEqual(stopped(Failed, read, tally, result)[: len(message)], message)

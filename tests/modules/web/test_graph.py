@@ -21,7 +21,7 @@ from tests.support.html_pages import Page
 from tests.support.program import TOP, expect, runs
 
 sys.path.insert(0, str(TOP / "tools"))
-from grdesk.web.closed_vote import Vote  # noqa: E402
+from grdesk.web.closed_vote import ClosedVote  # noqa: E402
 from grdesk.web.graph import drawing  # noqa: E402
 from grdesk.web.html import STYLE, document  # noqa: E402
 
@@ -62,7 +62,7 @@ def vote_of(count, seed):
         preferred[b, a] = 1_999 - preferred[a, b]
     winners = [pair for pair in preferred if preferred[pair] > preferred[pair[::-1]]]
     rounds = {1: winners[: len(winners) // 3]}
-    return Vote(1, "", 2_000, options, {}, preferred, rounds, [1], "Winner: 1", 1, [], None)
+    return ClosedVote(1, "", 2_000, options, {}, preferred, rounds, [1], "Winner: 1", 1, [], None)
 
 
 def texts_in(svg):
@@ -151,7 +151,7 @@ class Drawings(Case):
     def test_a_browser_measures_that_no_text_meets_another_one_or_leaves_the_picture(self):
         browser = next(filter(None, map(shutil.which, ("chromium", "chromium-browser", "google-chrome"))), None)
         if not browser:
-            self.skipTest("no Chromium is there to measure them")
+            self.skipTest("Chromium is not installed")
         work = self.folder()
         place = work / "drawings.html"
         page = document("x", "x", [*(drawn(count, 1).svg for count in COUNTS), MEASURE])
@@ -253,9 +253,9 @@ class Arrows(Case):
     def test_an_arrow_says_which_option_defeats_which_and_by_how_many(self):
         names = {1: "1 Red", 2: "2 Green", 3: "3 None of the above"}
         for each in arrows_in(drawing(CIRCLE)):
-            told = f"{names[each.begins]} defeats {names[each.ends]}, {DEFEATS.get((each.begins, each.ends))}"
-            with self.subTest(told=told):
-                self.assertIn(f"<title>{told}", re.sub("[\u2068\u2069]", "", each.text))
+            message = f"{names[each.begins]} defeats {names[each.ends]}, {DEFEATS.get((each.begins, each.ends))}"
+            with self.subTest(message=message):
+                self.assertIn(f"<title>{message}", re.sub("[\u2068\u2069]", "", each.text))
 
     def test_the_counts_of_a_defeat_stand_on_its_arrow_nearer_to_the_winner(self):
         svg = drawing(CIRCLE)
@@ -311,8 +311,9 @@ class Texts(Case):
         self.assertEqual(self.texts("count"), ["7:2", "6:3"])
 
     def test_titles_have_the_summaries_as_texts(self):
-        told = [re.sub("[\u2068\u2069]", "", "".join(text)) for tag, _, text in self.page().elements if tag == "title"]
-        self.assertEqual(told, [
+        elements = self.page().elements
+        titles = [re.sub("[\u2068\u2069]", "", "".join(text)) for tag, _, text in elements if tag == "title"]
+        self.assertEqual(titles, [
             "Defeats between the kept options",
             "1 <b>Red</b> defeats 2 </text></svg><script>x</script>, 7:2",
             "2 </text></svg><script>x</script> defeats 3 Gr<U+202E>een & \"', 6:3",

@@ -4,7 +4,7 @@ from tests.support.case import Case
 from tests.support.hand_made import tested, vote
 from tests.support.html_tables import table_in, tables_in
 from tests.support.in_process import stopped
-from grdesk.stop import Failed
+from grdesk.error import Failed
 from grdesk.web.matrix import matrix
 
 NAMES = ["Red", "Green", "Blue", "None of the above"]
@@ -86,18 +86,18 @@ class Marks(Case):
         self.assertEqual([cell.text for cell in headings if "apart" in cell.classes], ["2", "2 Green"])
 
     def test_a_caption_says_what_is_counted_and_what_stands_last(self):
-        told = "How many voters prefer the option of a row to that of a column"
-        self.assertEqual(table_in(matrix(vote(NAMES, BALLOTS))).caption, told)
+        message = "How many voters prefer the option of a row to that of a column"
+        self.assertEqual(table_in(matrix(vote(NAMES, BALLOTS))).caption, message)
         last = ", with the options that were not kept in italics after the others"
-        self.assertEqual(table_in(matrix(vote(NAMES, BALLOTS, WITHOUT_GREEN))).caption, told + last)
+        self.assertEqual(table_in(matrix(vote(NAMES, BALLOTS, WITHOUT_GREEN))).caption, message + last)
 
 
 class Blocks(Case):
     def test_each_of_several_tables_has_its_number_in_its_caption(self):
         names = [f"Option {place}" for place in range(1, 26)]
         tables = tables_in(matrix(vote(names, ["123456789abcdefghijklmnop"])))
-        told = "How many voters prefer the option of a row to that of a column: part {} of 3"
-        self.assertEqual([table.caption for table in tables], [told.format(number) for number in (1, 2, 3)])
+        message = "How many voters prefer the option of a row to that of a column: part {} of 3"
+        self.assertEqual([table.caption for table in tables], [message.format(number) for number in (1, 2, 3)])
 
     def test_12_options_make_one_table_and_13_make_two_with_all_rows_in_each(self):
         for count, columns in (12, [12]), (13, [12, 1]):
@@ -113,12 +113,13 @@ class Blocks(Case):
 
 class OtherSheets(Case):
     def test_a_result_with_other_counts_than_the_ballots_is_no_desks(self):
-        told = "of the voters who prefer option 1 to option 2 the ballots of the tally have 4, and its result has 5"
+        message = "of the voters who prefer option 1 to option 2 the ballots of the tally have 4, and its result has 5"
         other = vote(NAMES, BALLOTS, preferred={(1, 2): 5, (2, 1): 2})
-        self.assertEqual(stopped(Failed, matrix, other), told)
+        self.assertEqual(stopped(Failed, matrix, other), message)
 
     def test_a_ballot_with_a_rank_too_few_or_too_many_is_no_desks(self):
         for ranks in "123", "12345":
             with self.subTest(ranks=ranks):
-                told = "a ballot of the tally has more or fewer ranks than there are options"
-                self.assertEqual(stopped(Failed, matrix, vote(NAMES, [ranks])), f"{told}, so what answers is no desk")
+                message = "a ballot of the tally has more or fewer ranks than there are options"
+                message += ", so what answers is no desk"
+                self.assertEqual(stopped(Failed, matrix, vote(NAMES, [ranks])), message)

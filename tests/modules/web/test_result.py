@@ -27,29 +27,29 @@ def sheet_of(table):
 
 
 class Winner(Case):
-    def told(self, **changes):
+    def text(self, **changes):
         return text_of(winner(vote(NAMES, tests=TESTS, **changes))).split("\n")
 
     def test_a_winner_is_named_with_its_place(self):
-        self.assertEqual(self.told(), ["The winner is choice 1, Red.",
+        self.assertEqual(self.text(), ["The winner is choice 1, Red.",
                                        "Outcome (the Schwartz set after the last round): choice 1, Red."])
 
     def test_a_winner_by_the_casting_vote_is_told_so_beside_the_members_it_was_chosen_from(self):
-        told = self.told(outcome=[1, 2], winner=2, last="Winner: 2 by casting vote")
-        self.assertEqual(told, ["The winner is choice 2, <b>Green</b>, by the casting vote.",
+        message = self.text(outcome=[1, 2], winner=2, last="Winner: 2 by casting vote")
+        self.assertEqual(message, ["The winner is choice 2, <b>Green</b>, by the casting vote.",
                                 "Outcome (the Schwartz set after the last round): choice 1, Red, choice 2, "
                                 "<b>Green</b>."])
 
     def test_with_no_winner_all_members_are_named_the_last_one_too(self):
-        for outcome, told in (([1, 2], "choice 1, Red and choice 2, <b>Green</b>"),
+        for outcome, message in (([1, 2], "choice 1, Red and choice 2, <b>Green</b>"),
                               ([1, 2, 3], "choice 1, Red, choice 2, <b>Green</b> and choice 3, Blue")):
             with self.subTest(outcome=outcome):
-                first = self.told(outcome=outcome, winner=None, last="Casting vote needed")[0]
-                self.assertEqual(first, f"There is no winner yet. The casting vote chooses among {told}.")
+                first = self.text(outcome=outcome, winner=None, last="Casting vote needed")[0]
+                self.assertEqual(first, f"There is no winner yet. The casting vote chooses among {message}.")
 
 
 class Facts(Case):
-    def told(self, developers, count=2, received=None):
+    def text(self, developers, count=2, received=None):
         return text_of(facts(vote(NAMES, ["1234"] * count, TESTS, developers=developers, received=received)))
 
     def test_the_quorum_is_that_of_the_developers_of_the_call_and_not_of_the_ballots(self):
@@ -57,12 +57,12 @@ class Facts(Case):
                                               (16, "2.00", "6.00", 6), (17, "2.06", "6.18", 7),
                                               (1_000, "15.81", "47.43", 48)):
             with self.subTest(developers=developers):
-                told = f"Developers who were current at the call: {developers}, so that Q is {q} and the quorum 3Q is "
-                self.assertIn(f"{told}{three_q}, which {votes} votes meet (", self.told(developers))
+                message = f"Developers who were current at the call: {developers}, so that Q is {q} and the quorum 3Q"
+                self.assertIn(f"{message} is {three_q}, which {votes} votes meet (", self.text(developers))
 
     def test_ballots_and_votes_that_were_received_are_told_apart(self):
-        self.assertTrue(self.told(4, 2, 5).startswith("Ballots: 2. Received, with those that were replaced: 5. Dev"))
-        self.assertTrue(self.told(4, 2).startswith("Ballots: 2. Developers"))
+        self.assertTrue(self.text(4, 2, 5).startswith("Ballots: 2. Received, with those that were replaced: 5. Dev"))
+        self.assertTrue(self.text(4, 2).startswith("Ballots: 2. Developers"))
 
 
 class Options(Case):
@@ -107,8 +107,8 @@ class Rounds(Case):
         ])
 
     def test_without_a_round_a_sentence_says_so(self):
-        told = "No round dropped anything: no member of the Schwartz set defeats another."
-        self.assertEqual(text_of(rounds(vote(NAMES))), told)
+        message = "No round dropped anything: no member of the Schwartz set defeats another."
+        self.assertEqual(text_of(rounds(vote(NAMES))), message)
 
 
 class Ballots(Case):

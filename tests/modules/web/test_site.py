@@ -10,7 +10,7 @@ from tests.support.program import T0, TOP
 
 sys.path.insert(0, str(TOP / "tools"))
 from grdesk.desk.sheet import Status  # noqa: E402
-from grdesk.stop import Refused, Wrong  # noqa: E402
+from grdesk.error import Refused, Wrong  # noqa: E402
 from grdesk.web.site import publish  # noqa: E402
 
 # Three developers, and a closed vote with so many of them as there are ballots.
@@ -54,9 +54,9 @@ class Lists(Case):
     def published(self, *ranks, has_voters=True):
         """Whether all was written, which files there are of the resolution, and what was said."""
         place = self.folder() / "public"
-        with said() as told:
+        with said() as message:
             is_whole = publish(MadeUp(*ranks), str(place), has_voters)
-            lines = told.lines()
+            lines = message.lines()
         self.assertIn("written to", lines.pop())
         names = sorted(name.removeprefix("resolution-1.") for name in os.listdir(place) if name != "index.html")
         return is_whole, names, [line.removeprefix("gr-desk: ") for line in lines]
@@ -106,5 +106,5 @@ class Words(Case):
             ("--all public --voters --port 5", "--voters needs DESK: by a port it is not known who voted"),
         ):
             with self.subTest(line=line):
-                words = page.reader().read(line.split())
+                words = page.parser().read(line.split())
                 self.assertEqual(stopped(Wrong, page.run, words), why)

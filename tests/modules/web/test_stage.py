@@ -59,8 +59,8 @@ class People(Case):
             with self.subTest(name=name):
                 people = roll(4, eve=name, bob=f"{name} 2")
                 page = page_of(status(), people)
-                told = f"Proposed by {name} (eve). Sponsored by {name} 2 (bob)."
-                self.assertEqual([each[: len(told)] for each in paragraphs(page, "Proposed by")], [told])
+                message = f"Proposed by {name} (eve). Sponsored by {name} 2 (bob)."
+                self.assertEqual([each[: len(message)] for each in paragraphs(page, "Proposed by")], [message])
                 self.assertEqual({tag for tag, _, _ in page.elements} & {"b", "script", "img"}, set())
 
     def test_a_mark_of_direction_in_a_name_is_shown_by_its_number(self):
@@ -76,10 +76,10 @@ class People(Case):
         self.assertIn("Proposed by eve. Sponsored by bob.", self.facts(roll(4)))
 
     def test_leader_committee_and_nobody_are_told_apart(self):
-        for proposer, told in (("leader", "Proposed by the leader."), ("committee", "Proposed by the committee."),
+        for proposer, message in (("leader", "Proposed by the leader."), ("committee", "Proposed by the committee."),
                                ("none", "Nobody proposes it.")):
             with self.subTest(proposer=proposer):
-                self.assertTrue(self.facts(proposer=proposer).startswith(told), self.facts(proposer=proposer))
+                self.assertTrue(self.facts(proposer=proposer).startswith(message), self.facts(proposer=proposer))
 
 
 class Needs(Case):
@@ -90,19 +90,19 @@ class Needs(Case):
         return re.search(r"It has .*? needed \([^)]*\)\.", text)[0]
 
     def test_who_is_retired_raises_no_number(self):
-        told = "It has 1 sponsor; 1 is needed (Constitution, 4.2.1 and 4.2.7)."
-        self.assertEqual(self.needs(4, retired=12), told)
+        message = "It has 1 sponsor; 1 is needed (Constitution, 4.2.1 and 4.2.7)."
+        self.assertEqual(self.needs(4, retired=12), message)
 
     def test_the_number_is_raised_by_the_first_developer_that_is_too_many(self):
-        for current, told in ((1, "1 is"), (4, "1 is"), (5, "2 are"), (16, "2 are"), (17, "3 are"), (64, "4 are"),
+        for current, message in ((1, "1 is"), (4, "1 is"), (5, "2 are"), (16, "2 are"), (17, "3 are"), (64, "4 are"),
                               (65, "5 are"), (101, "5 are"), (2_000, "5 are")):
             with self.subTest(current=current):
-                expected = f"It has 1 sponsor; {told} needed (Constitution, 4.2.1 and 4.2.7)."
+                expected = f"It has 1 sponsor; {message} needed (Constitution, 4.2.1 and 4.2.7)."
                 self.assertEqual(self.needs(current), expected)
 
     def test_a_choice_that_nobody_proposes_needs_a_proposer_too(self):
-        told = "It has 0 sponsors; a proposer and 1 are needed (Constitution, 4.2.1 and 4.2.7)."
-        self.assertEqual(self.needs(4, proposer="none", sponsors=[]), told)
+        message = "It has 0 sponsors; a proposer and 1 are needed (Constitution, 4.2.1 and 4.2.7)."
+        self.assertEqual(self.needs(4, proposer="none", sponsors=[]), message)
 
     def test_leader_and_committee_need_no_sponsor(self):
         for proposer in "leader", "committee":
@@ -115,10 +115,10 @@ class Needs(Case):
         self.assertEqual(paragraphs(page_of(called), "needed"), [])
 
     def test_a_ratio_above_1_is_told_and_a_simple_majority_is_not(self):
-        for ratio, told in (1, []), (2, ["It needs a majority of 2:1."]):
+        for ratio, message in (1, []), (2, ["It needs a majority of 2:1."]):
             with self.subTest(ratio=ratio):
                 [text] = paragraphs(page_of(status(choices=[choice(1, ratio=ratio)])), "Proposed by")
-                self.assertEqual(re.findall("It needs a majority of [0-9]:1[.]", text), told)
+                self.assertEqual(re.findall("It needs a majority of [0-9]:1[.]", text), message)
 
 
 class Times(Case):
@@ -127,16 +127,16 @@ class Times(Case):
 
     def test_a_discussion_is_over_from_its_end_on_and_not_a_second_before(self):
         end = DISCUSSION[1]
-        told = "Under discussion. As of 2026-01-14T23:59:59Z."
-        self.assertEqual(self.stage(end - 1, status()), told)
-        told = "The discussion is over, and the call for votes comes next. As of 2026-01-15T00:00:00Z."
-        self.assertEqual(self.stage(end, status()), told)
+        message = "Under discussion. As of 2026-01-14T23:59:59Z."
+        self.assertEqual(self.stage(end - 1, status()), message)
+        message = "The discussion is over, and the call for votes comes next. As of 2026-01-15T00:00:00Z."
+        self.assertEqual(self.stage(end, status()), message)
 
     def test_the_time_for_votes_is_over_from_its_end_on_and_not_a_second_before(self):
         of, end = status("Voting", [choice(1, place=1)], voting=VOTING), VOTING[1]
         self.assertEqual(self.stage(end - 1, of), "In voting. As of 2026-01-21T23:59:59Z.")
-        told = "The time for votes is over, and the close comes next. As of 2026-01-22T00:00:00Z."
-        self.assertEqual(self.stage(end, of), told)
+        message = "The time for votes is over, and the close comes next. As of 2026-01-22T00:00:00Z."
+        self.assertEqual(self.stage(end, of), message)
 
     def test_a_vote_that_is_closed_or_was_cancelled_depends_on_no_moment(self):
         closed = status("Closed", [choice(1, place=1)], voting=VOTING)
@@ -153,11 +153,12 @@ class Times(Case):
         })
 
     def test_what_moved_the_end_is_told_with_its_sign(self):
-        for shift, told in ((1, ["1 day more"]), (-1, ["1 day less"]), (7, ["7 days more"]), (-7, ["7 days less"]),
+        for shift, message in ((1, ["1 day more"]), (-1, ["1 day less"]), (7, ["7 days more"]), (-7, ["7 days less"]),
                             (0, [])):
             with self.subTest(shift=shift):
                 texts = paragraphs(page_of(status(), row={"changed": 0, "shift": shift}), "varied", "changed last")
-                expected = [f"The Leader has varied the discussion by {each} (Constitution, A.1.6)." for each in told]
+                begin = "The Leader has varied the discussion by"
+                expected = [f"{begin} {days} (Constitution, A.1.6)." for days in message]
                 self.assertEqual(texts, expected)
         texts = paragraphs(page_of(status(), row={"changed": T0 + 1, "shift": 0}), "changed last")
         self.assertEqual(texts, ["The ballot was changed last 2026-01-01T00:00:01Z (Constitution, A.1.4)."])
@@ -220,8 +221,8 @@ class Amendments(Case):
 
     def test_an_amendment_is_told_with_the_wording_that_it_took_away(self):
         _, texts = self.amendments((1, proposed(1)), (2, amended(1, 2)))
-        told = "Choice 1 got a substantial amendment 2026-01-01T00:01:00Z (Constitution, A.1.3), and is now Second."
-        self.assertEqual(texts, [f"{told} Before, it was:", "First of 1\n\nBefore."])
+        message = "Choice 1 got a substantial amendment 2026-01-01T00:01:00Z (Constitution, A.1.3), and is now Second."
+        self.assertEqual(texts, [f"{message} Before, it was:", "First of 1\n\nBefore."])
 
     def test_a_minor_amendment_is_told_apart_from_a_substantial_one(self):
         _, texts = self.amendments((1, proposed(1)), (2, amended(1, 2, minor="1")))

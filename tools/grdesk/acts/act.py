@@ -58,8 +58,8 @@ class Act:
         """What should be done where nobody knows whether the desk accepted the act."""
         if self.is_vote:
             again = "send the vote again, with the same token"
-            return f"{again}: where it was accepted already, `Received` of the result is one higher for that"
-        return "what was accepted stands, so look at the status"
+            return f"{again}: if it was accepted before, `Received` of the result is one higher for that"
+        return "the desk may have accepted the act, so look at the status"
 
     def texts(self):
         """The fields as texts, from which `of_texts` makes the same bytes again, also where they are no UTF-8."""

@@ -4,8 +4,8 @@ import re
 from grdesk.acts.act import NUMBER
 from grdesk.dates import dated
 from grdesk.desk.limit import DAY
+from grdesk.error import Refused, Wrong
 from grdesk.output import counted
-from grdesk.stop import Refused, Wrong
 
 # The beginning of 2000. Whoever gives an earlier date has hardly meant it.
 EARLIEST_MEANT = 946_684_800
@@ -17,24 +17,24 @@ def duration(text):
     """A DURATION, in seconds."""
     found = re.fullmatch("([1-9][0-9]{0,5})([smhd])", text, re.ASCII)
     if not found:
-        raise Wrong(f"a DURATION is as 24h or 2d, and not {text!r}")
+        raise Wrong(f"a DURATION is written like 24h or 2d, and not {text!r}")
     return int(found[1]) * SECONDS[found[2]]
 
 
 def check_seconds(option, moment):
     """Refuses a year, or a day without its hyphens, which would be taken for seconds since 1970."""
     if moment is not None and moment < EARLIEST_MEANT:
-        told = f"{option} is {dated(moment)}; a date is written as 2026-01-14T21:07:00Z"
-        raise Wrong(f"{told}, and one before 2000 is taken with --ahead alone, as for a rehearsal")
+        message = f"{option} is {dated(moment)}; a date is written as 2026-01-14T21:07:00Z"
+        raise Wrong(f"{message}, and one before 2000 needs --ahead, for example in a rehearsal")
 
 
-def until_of(words, moment):
+def until_of(arguments, moment):
     """When the time of objection is over that the words give, or None."""
-    if words.hold is not None:
-        return moment + words.hold
-    if words.hold_until is not None and words.hold_until <= moment:
+    if arguments.hold is not None:
+        return moment + arguments.hold
+    if arguments.hold_until is not None and arguments.hold_until <= moment:
         raise Wrong("--hold-until must be later than the act itself")
-    return words.hold_until
+    return arguments.hold_until
 
 
 def span_text(seconds):
@@ -48,20 +48,20 @@ def span_text(seconds):
 def check_clocks(moment, clock, now):
     """Refuses what may block the desk, or is blocked: no act is taken that is dated before the last one."""
     if moment > now:
-        told = f"{dated(moment)} is later than the machine's clock by {span_text(moment - now)}"
-        raise Refused(f"nothing was sent: {told}; with --ahead it is sent all the same, as for a rehearsal")
+        message = f"{dated(moment)} is later than the machine's clock by {span_text(moment - now)}"
+        raise Refused(f"nothing was sent: {message}; with --ahead it is sent all the same, for example in a rehearsal")
     if clock > now:
-        told = f"the desk's clock is {dated(clock)}, later than the machine's by {span_text(clock - now)}"
-        raise Refused(f"nothing was sent: {told}; with --ahead this is sent all the same")
+        message = f"the desk's clock is {dated(clock)}, later than the machine's by {span_text(clock - now)}"
+        raise Refused(f"nothing was sent: {message}; with --ahead this is sent all the same")
 
 
 def late_clock(span, is_given):
     """What is said where the desk's clock is later, by this span, than a moment that was given, or than the machine's.
     """
     if is_given:
-        return f"--at lies {span} before the desk's clock: each act at it is refused 2 ClockBack"
-    told = f"the desk's clock is {span} later than the machine's"
-    return f"{told}: until then each act without --at is refused 2 ClockBack"
+        return f"--at is {span} before the desk's clock: each act with that date is refused 2 ClockBack"
+    message = f"the desk's clock is {span} later than the machine's"
+    return f"{message}: until then each act without --at is refused 2 ClockBack"
 
 
 # A call that is entered after its date, from which on its voting counts.
@@ -75,7 +75,7 @@ def is_voting_over(call, moment, now):
 
 def late_call(call, moment, now):
     """What is said of it."""
-    told = f"the call comes {span_text(now - moment)} after its date"
+    message = f"the call comes {span_text(now - moment)} after its date"
     if is_voting_over(call, moment, now):
-        return f"{told}, when all of its time for votes is over"
-    return f"{told}, and its voters have so much less time"
+        return f"{message}, when all of its time for votes is over"
+    return f"{message}, and its voters have so much less time"

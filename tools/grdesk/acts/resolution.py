@@ -5,9 +5,11 @@ import re
 from grdesk.acts.refusal import MEANINGS
 from grdesk.desk.address import given_address
 from grdesk.desk.sheet import NotGiven, status_of
+from grdesk.error import Refused, Wrong
 from grdesk.output import name_of_tool
-from grdesk.stop import Refused, Wrong
 
+# The arguments of a command about one resolution, and the help of each.
+DESK_AND_R = (("DESK", "the file of the desk; not with --port or --socket"), ("R", "the number of the resolution"))
 RESOLUTION = re.compile("[1-9][0-9]{0,8}", re.ASCII)
 
 
@@ -17,14 +19,14 @@ def resolution_number(text):
     return int(text)
 
 
-def take_desk(words, rest):
+def take_desk(arguments, rest):
     """Puts DESK and R into the words, and gives what stands after the two. DESK is left out where a port or a socket
     says which desk it is, or where the first word is a number as R is. A desk with such a name is written as ./1."""
-    is_file = given_address(words) is None and rest and not RESOLUTION.fullmatch(rest[0])
-    words.desk, rest = (rest[0], rest[1:]) if is_file else (None, rest)
+    is_file = given_address(arguments) is None and rest and not RESOLUTION.fullmatch(rest[0])
+    arguments.desk, rest = (rest[0], rest[1:]) if is_file else (None, rest)
     if not rest:
         raise Wrong(f"the number of a resolution is missing; {name_of_tool()} --help says more")
-    words.resolution = resolution_number(rest[0])
+    arguments.resolution = resolution_number(rest[0])
     return rest[1:]
 
 

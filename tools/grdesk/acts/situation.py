@@ -13,7 +13,7 @@ class DeskView:
 
     def __init__(self, open_desk, known):
         self.open_desk = open_desk
-        self.known = known
+        self.answers = known
 
     @cached_property
     def desk(self):
@@ -21,12 +21,12 @@ class DeskView:
 
     def sheet(self, form, *words):
         """What a form makes of a sheet, or None where the desk refuses it."""
-        if words not in self.known:
+        if words not in self.answers:
             try:
-                self.known[words] = form(self.desk.sheet(*words))
+                self.answers[words] = form(self.desk.sheet(*words))
             except NotGiven:
-                self.known[words] = None
-        return self.known[words]
+                self.answers[words] = None
+        return self.answers[words]
 
     def status(self, number):
         return self.sheet(lambda text: status_of(number, text), "status", number)
@@ -40,9 +40,9 @@ class DeskView:
 
     def rows(self, table):
         """The rows of a table of the desk, or None where only its sheets are read."""
-        if "rows" not in self.known:
-            self.known["rows"] = self.desk.rows()
-        return self.known["rows"] and self.known["rows"][table]
+        if "rows" not in self.answers:
+            self.answers["rows"] = self.desk.rows()
+        return self.answers["rows"] and self.answers["rows"][table]
 
     def clock(self):
         header = self.rows("desk")
@@ -61,7 +61,7 @@ class Situation:
     resolution: Optional[int]
     values: dict
     at: int
-    seen: Optional[DeskView]
+    view: Optional[DeskView]
 
     def act(self):
         return Act(ACTS[self.name][0].replace("{r}", str(self.resolution)), self.values)
@@ -74,7 +74,7 @@ class Situation:
         return self.values[field].decode(errors="replace")
 
     def status(self):
-        return self.seen.status(self.resolution)
+        return self.view.status(self.resolution)
 
     def choice(self):
         """The choice that the act names."""
@@ -91,9 +91,9 @@ class Situation:
 
     def earlier(self, end):
         """What is said where only a date before an end could do."""
-        clock = self.seen.clock()
+        clock = self.view.clock()
         if clock is None:
-            return f"only a date before {dated(end)} could do"
+            return f"only a date before {dated(end)} would do"
         if clock >= end:
-            return f"no date could do any more, since the desk's clock is at {dated(clock)}"
-        return f"only a date could do from {dated(clock)} to {dated(end - 1)}"
+            return f"no date would do any more: the desk's clock is at {dated(clock)}"
+        return f"only a date from {dated(clock)} to {dated(end - 1)} would do"

@@ -1,20 +1,21 @@
-"""What a voter is told of the ballots that came: what was entered, by which token and receipt, and what was refused."""
+"""The mail to a voter about the ballots that came: what was entered, by which token and receipt, or refused."""
 import hashlib
-from email.message import EmailMessage
-from typing import NamedTuple
+from functools import cached_property
 
-from grdesk.acts.explanation import LETTERS
 from grdesk.acts.refusal import MEANINGS, REFUSED
 from grdesk.ballots.batch import Standing
 from grdesk.ballots.form import folded
 from grdesk.ballots.outbox import mail_of
 from grdesk.dates import date_of
+from grdesk.desk.rank import LETTERS
 from grdesk.desk.receipt import receipt_of
 from grdesk.journal.entry import arrived
 
+ANSWERED = Standing.COUNTED, Standing.REFUSED
+
 HOW_CHECKED = f"""\
-prints the receipt, where the token is yours. Once the vote is closed and its tally published, the receipt stands there
-in a line after your ranks, in which {LETTERS}. Until then nothing of the ballots is told. Whoever reads this mail can
+prints the receipt if the token is yours. Once the vote is closed and its tally is published, the tally has the receipt
+in a line after your ranks, in which {LETTERS}. Until then nothing of the ballots is shown. Whoever reads this mail can
 find your ballot there, so keep it to yourself."""
 
 
@@ -42,29 +43,47 @@ def refused_text(ballot, when=""):
     return folded(f"Your ballot{when} was not entered: {why_refused(ballot.why)}.")
 
 
-class Answer(NamedTuple):
-    """A mail to a voter. By the digest it is known, also where a file of a mail that is refused has another time since.
-    """
+class Answer:
+    """An answer to a voter: what it reports of these ballots, and its mail, which is made when it is first asked for.
+    It is known by its digest, also if the file of a mail that is refused has another time since. Of the ballots that
+    were entered the last one counts, and so it is the one that is reported."""
 
-    mail: EmailMessage
-    digest: str
+    def __init__(self, ballots, form, domain):
+        self.ballots, self.form = ballots, form
+        counted = [each for each in ballots if each.standing is Standing.COUNTED][-1:]
+        self.refused = [each for each in ballots if each.standing is Standing.REFUSED]
+        self.entered = [counted_text(each, form) for each in counted]
+        last = [*self.refused, *counted][-1]
+        self.to, self.answered = f"{last.login}@{domain}" if domain else None, message_id_of(last)
+        known = [form.title, last.login, self.to, self.answered, self.entered, *map(refused_text, self.refused)]
+        self.digest = hashlib.sha256(repr(known).encode()).hexdigest()
+
+    @cached_property
+    def mail(self):
+        message = (refused_text(each, f", which arrived {date_of(each.moment)},") for each in self.refused)
+        text = "\n\n".join([self.form.title, *self.entered, *message]) + "\n"
+        return mail_of(f"Your ballot on resolution {self.form.number}", text, self.to, self.answered)
 
 
-def answer_to(ballots, form, domain):
-    """The answer to a voter, or None where there is nothing to tell yet. Of the ballots that were entered the last one
-    counts, and so it is the one that is reported."""
-    counted = [each for each in ballots if each.case is Standing.COUNTED][-1:]
-    refused = [each for each in ballots if each.case is Standing.REFUSED]
-    if not counted and not refused:
-        return None
-    entered = [counted_text(each, form) for each in counted]
-    last = [*refused, *counted][-1]
-    to, answered = f"{last.login}@{domain}" if domain else None, message_id_of(last)
-    told = (refused_text(each, f", which arrived {date_of(each.moment)},") for each in refused)
-    mail = mail_of(f"Your ballot on resolution {form.number}", "\n\n".join([form.title, *entered, *told]) + "\n",
-                   to, answered)
-    known = [form.title, last.login, to, answered, entered, *map(refused_text, refused)]
-    return Answer(mail, hashlib.sha256(repr(known).encode()).hexdigest())
+class Answers:
+    """The answers to the voters of a batch. An answer is rendered once, unless more of that voter's ballots have been
+    answered since."""
+
+    def __init__(self, batch, form, domain):
+        self.batch, self.form, self.domain = batch, form, domain
+        self.rendered = {}
+
+    def all(self):
+        """The login of each voter whose ballots were answered, and the answer."""
+        for login, ballots in self.batch.of_voters().items():
+            if answered := [each for each in ballots if each.standing in ANSWERED]:
+                yield login, self.answer_to(login, answered)
+
+    def answer_to(self, login, ballots):
+        answer = self.rendered.get(login)
+        if answer is None or list(map(id, answer.ballots)) != list(map(id, ballots)):
+            answer = self.rendered[login] = Answer(ballots, self.form, self.domain)
+        return answer
 
 
 def message_id_of(ballot):

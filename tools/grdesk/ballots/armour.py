@@ -5,8 +5,8 @@ import re
 from enum import Enum
 from typing import NamedTuple, Optional
 
+from grdesk.error import NotRead
 from grdesk.output import quoted
-from grdesk.stop import NotRead
 
 WHY_ENCRYPTED = "the mail is encrypted; send the form as plain text, signed or not"
 
@@ -29,7 +29,8 @@ WHOLE = [Armour.SIGNED, Armour.SIGNATURE, Armour.END]
 DETACHED = [Armour.SIGNATURE, Armour.END]
 KEYS = Armour.PUBLIC, Armour.PRIVATE, Armour.SECRET
 # gpg passes over a CR anywhere behind the hyphens, and takes a NUL for the end of the line. A mark U+FEFF at the top of
-# a text is passed over by others. What must stand before the hyphens comes after them: `re` is fast if letters come first.
+# a text is passed over by others. What must stand before the hyphens comes after them: `re` is fast if letters come
+# first.
 LINE = re.compile(
     rb"-----(?:(?<=^-----)|(?<=\A\xef\xbb\xbf-----))((?:BEGIN|END) PGP [A-Z ]+)-----([ \t\r]*)(?:$|\0)", re.M)
 STRICT = re.compile(rb"[ \t]*\r?")

@@ -3,18 +3,20 @@ has checked the identity. Of each mail it is reported when it arrived, what was 
 import os
 import re
 import stat
+from collections import Counter
 from dataclasses import dataclass
 from enum import Enum
 from typing import NamedTuple, Optional
 
 from grdesk.acts.refusal import MEANINGS
-from grdesk.ballots.form_reader import FilledForm, read
+from grdesk.ballots.form_reader import FilledForm, OfAnotherVote, read_form
 from grdesk.ballots.mail import Mail, mails_at
 from grdesk.ballots.mailbox import is_kind, is_of_mails
-from grdesk.stop import Failed, NotRead
+from grdesk.error import Failed, NotRead
 
 LOGIN = re.compile("[a-z0-9][a-z0-9._-]{0,31}", re.ASCII)
 ENDS = ".txt", ".eml", ".mbox"
+NO_OTHERS = {}
 
 
 class By(Enum):
@@ -80,13 +82,22 @@ class Stray(NamedTuple):
     is_filled: bool
 
 
-def arrivals_in(folder, form, host, roll):
-    """The arrivals in a folder, in the order of their moments, and what is left out."""
+class Came(NamedTuple):
+    """What came in a folder: the arrivals, in the order of their moments, what is left out, and how many ballots are on
+    other votes, by the numbers of these."""
+
+    arrivals: list
+    strays: list
+    elsewhere: Counter
+
+
+def arrivals_in(folder, form, host, roll, others=NO_OTHERS):
+    """What came in a folder. `others` are the forms of the other votes of the desk, and whether each is open."""
     try:
         names = sorted(os.listdir(folder))
     except OSError as error:
         raise Failed(f"{folder} cannot be read: {error.strerror}") from None
-    found, strays = [], []
+    found, strays, elsewhere = [], [], Counter()
     for name in names:
         path = os.path.join(folder, name)
         login = login_of(name, is_kind(path, stat.S_ISDIR))
@@ -94,10 +105,14 @@ def arrivals_in(folder, form, host, roll):
             strays.append(Stray(name, why, is_filled(path, form)))
             continue
         box = mails_at(path)
-        found += [arrival_of(roll[login], mail, form, host) for mail in box.mails]
+        for mail in box.mails:
+            try:
+                found.append(arrival_of(roll[login], mail, form, host, others))
+            except OfAnotherVote as other:
+                elsewhere[other.form.number] += 1
         strays += [stray_of(each, folder, form) for each in box.passed]
     strays.sort(key=lambda each: not each.is_filled)
-    return sorted(found, key=lambda each: each.moment), strays
+    return Came(sorted(found, key=lambda each: each.moment), strays, elsewhere)
 
 
 def stray_of(passed, folder, form):
@@ -130,19 +145,25 @@ def is_filled(path, form):
 
 def has_filled(mail, form):
     try:
-        return bool(read(form, mail.written().text))
+        return bool(read_form(form, mail.written().text))
     except NotRead:
         return False
 
 
-def arrival_of(developer, mail, form, host):
+def arrival_of(developer, mail, form, host, others=NO_OTHERS):
+    """A mail as it arrived. OfAnotherVote if the ballot in it is on another vote, which answers it. No run of a vote
+    that is closed answers what came after its end, so that is refused here."""
     received = mail.received(host)
     moment, by = (mail.modified, By.FILE) if received is None else (received, By.HOST)
     arrival = Arrival(developer.login, mail, moment, by)
     try:
         written = mail.written()
         arrival.is_signed = written.is_signed
-        arrival.filled = read(form, written.text)
+        arrival.filled = read_form(form, written.text, others)
+    except OfAnotherVote as other:
+        if others[other.form] or moment < other.form.end:
+            raise
+        arrival.why = f"{other}, and that vote is over"
     except NotRead as why:
         arrival.why = str(why)
     return arrival

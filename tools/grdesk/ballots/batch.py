@@ -1,19 +1,19 @@
 """What becomes of the ballots that came: which are sent, and which are not, by the journal and the desk as it is."""
 import hashlib
-from bisect import bisect_right
 from dataclasses import dataclass, field
 from enum import Enum
+from itertools import chain
 from typing import Optional
 
 from grdesk.acts.act import Act
 from grdesk.ballots.arrival import Arrival, By, Clock
-from grdesk.ballots.doubt import MOVED, OTHER_CLOCK, SAME_ID, SAME_MOMENT, UNTAKEN, Known, Sharing, why_again
+from grdesk.ballots.doubt import MOVED, OTHER_CLOCK, SAME_ID, SAME_MOMENT, UNTAKEN, KnownBallot, Sharing, why_again
 from grdesk.ballots.finality import is_final
 from grdesk.dates import date_of
 from grdesk.desk.limit import DAY
 from grdesk.desk.receipt import receipt_of
 from grdesk.desk.row import VOTING
-from grdesk.journal.entry import Entries, Entry, Fate, arrived
+from grdesk.journal.entry import Entries, Entry, Fate, Replaced, arrived
 from grdesk.journal.source import bare_message_id
 
 
@@ -26,15 +26,16 @@ class Standing(Enum):
     # The table says what the Secretary may do with these two, since nothing is guessed.
     UNDECIDED = "not sent: nothing says which ballot of this voter is the last one"
     WHOSE = "not sent: nothing says whose ballot it is"
-    LATE = "not sent: it arrived in time, and by the desk's clock it could only be entered past the end"
+    LATE = "not sent: it arrived in time, but could only be entered after the end of the vote"
     AHEAD = "not sent: its time is later than the machine's clock"
+    BEHIND = "not sent yet: another vote ended before it arrived, and is not closed"
     RETIRED = "not sent: this developer is retired on the roll; it is taken once the roll says current"
-    GONE = "not sent again: it was entered, and taken out of the desk later"
+    GONE = "not sent again: it was entered, but the desk no longer has it"
     # The desk may take it later, so the next run sends it again.
     PASSING = "refused for now, and sent again by the next run"
     # The desk or the form says why.
     REFUSED = "refused"
-    REPLACED = "not sent, since a later ballot of the same voter is there"
+    REPLACED = "not sent: a later ballot of the same voter counts"
     COUNTED = "entered before, and answered now"
 
 
@@ -42,25 +43,30 @@ SENT = Standing.TO_SEND, Standing.DOUBTFUL
 # The Secretary may enter these by hand.
 LEFT = Standing.UNDECIDED, Standing.WHOSE, Standing.GONE
 # Those to which the voter has no answer yet.
-UNANSWERED = *SENT, *LEFT, Standing.LATE, Standing.AHEAD, Standing.RETIRED, Standing.PASSING
+UNANSWERED = *SENT, *LEFT, Standing.LATE, Standing.AHEAD, Standing.BEHIND, Standing.RETIRED, Standing.PASSING
 
 
 @dataclass
 class Ballot:
     """A ballot that came. `entry` is the act of the journal that has it, and `why` says why it is not taken, or not
-    sent. `is_other_text` is whether the journal has another text of the same mail. `is_moved` is whether its file has
-    another time than it had when it came first, and `is_told` is whether its voter was answered before, or the
-    Secretary was told that it is replaced."""
+    sent. `replaced` is what the journal has of it if it was replaced before it was sent. `is_other_text` is whether the
+    journal has another text of the same mail. `is_moved` is whether its file has another time than it had when it came
+    first. `is_unsure` is whether its time tells nothing, and the outbox alone says that it is replaced. `is_told` is
+    whether its voter was answered before, or the Secretary was told that it is replaced."""
 
     arrival: Arrival
-    case: Standing
+    standing: Standing
     entry: Optional[Entry] = None
     why: Optional[str] = None
+    replaced: Optional[Replaced] = None
     token: Optional[str] = None
     votes_again: bool = False
     is_other_text: bool = False
     is_moved: bool = False
-    is_told: bool = False
+    is_unsure: bool = False
+    is_reported: bool = False
+    # The resolution. A mail may have a ballot on another one too.
+    number: int = 0
 
     @property
     def login(self):
@@ -78,12 +84,12 @@ class Ballot:
     def is_new(self):
         return self.entry is None
 
-    def put(self, case, why):
-        self.case, self.why = case, why
+    def put(self, standing, why):
+        self.standing, self.why = standing, why
 
     def digest(self):
-        """By what it is known that the Secretary was told of it."""
-        return hashlib.sha256(f"{self.login}\n{self.arrival.mail.key()}\n".encode()).hexdigest()
+        """The digest by which an outbox keeps that a table reported it."""
+        return hashlib.sha256(f"{self.number}\n{self.login}\n{self.arrival.mail.key()}\n".encode()).hexdigest()
 
     def act(self, number):
         values = {"login": self.login, "ranks": self.ranks, "token": self.token}
@@ -93,55 +99,60 @@ class Ballot:
 @dataclass
 class Batch:
     """The ballots on a resolution that came. `ends` are those of all votes that are open on the desk, as far as is
-    known. `held` are the ranks and receipts that the desk has by login, or None by a port; `clock` is the desk's there,
-    and the machine's by a port. `told` are the digests of ballots that were reported as replaced, and `roll` has the
-    developers by their logins."""
+    known. `stored` are the ranks and receipts that the desk has by login, or None by a port; `clock` is the desk's, and
+    the machine's by a port. `reported` are the digests of ballots that a table has shown as replaced, and `roll` has
+    the developers by their logins."""
 
     number: int
     end: int
     ends: list
     now: int
     clock: int
-    held: Optional[dict]
+    stored: Optional[dict]
     entries: Entries
-    told: set
+    reported: set
     roll: dict
     domain: Optional[str] = None
     ballots: list = field(default_factory=list)
 
     def __post_init__(self):
         self.votes = votes_in(self.entries, self.number)
+        self.replaced = replaced_in(self.entries, self.number)
 
     def take(self, arrivals):
         """Puts each arrival, and finds out how it stands with it."""
         self.ballots = [self.met(each) for each in each_once(arrivals)]
         for each in self.ballots:
-            each.case = self.known(each)
+            each.standing = self.standing_alone(each)
         self.look_whose()
         for ballots in self.of_voters().values():
             self.judge(ballots)
         self.ballots.sort(key=lambda each: each.moment)
 
     def met(self, arrival):
-        """A ballot. Where the journal has its mail, it arrived when the journal says, whatever its file says now."""
-        votes, filled = self.votes.get(arrival.login, []), arrival.filled
-        own = [each for each in votes if is_by(each, arrival.mail)]
-        same = [each for each in own if filled is None or says(each, filled)]
+        """A ballot. Where the journal has its mail, it arrived when the journal says, whatever its file says now. If it
+        was never sent, and the journal has the time of a file, a time that a host gives is the better one."""
+        votes = self.votes.get(arrival.login, [])
+        own, same = those_by(arrival, votes)
+        own_replaced, same_replaced = those_by(arrival, self.replaced.get(arrival.login, []))
         # One that was sent again has a later act.
         entry = next(filter(self.has, same), same[-1] if same else None)
-        ballot = Ballot(arrival, Standing.REFUSED, entry, arrival.why)
-        ballot.is_other_text = bool(own) and not same
-        ballot.votes_again = arrival.login in (self.held or ()) or any(map(self.has, votes))
-        if entry and arrived(entry) != arrival.moment:
-            ballot.is_moved = arrival.by is By.FILE and not arrival.mail.is_in_box and "arrived" in entry.source
-            arrival.moment, arrival.by, arrival.kept_clock = arrived(entry), By.JOURNAL, clock_of(entry)
+        replaced = same_replaced[0] if same_replaced else None
+        ballot = Ballot(arrival, Standing.REFUSED, entry, arrival.why, replaced, number=self.number)
+        ballot.is_other_text = bool(own or own_replaced) and not (same or same_replaced)
+        ballot.votes_again = arrival.login in (self.stored or ()) or any(map(self.has, votes))
+        is_better = arrival.by is By.HOST and replaced and clock_of(replaced) is not Clock.HOST
+        known = entry or (None if is_better else replaced)
+        if known and arrived(known) != arrival.moment:
+            ballot.is_moved = arrival.by is By.FILE and not arrival.mail.is_in_box and "arrived" in known.source
+            arrival.moment, arrival.by, arrival.kept_clock = arrived(known), By.JOURNAL, clock_of(known)
         return ballot
 
     def has(self, entry):
         """Whether the desk has accepted a vote of the journal, by the journal or by its ranks and its receipt."""
         login, ranks, token = (entry.fields[name] for name in ("login", "ranks", "token"))
         ballot = ranks, receipt_of(self.number, login, token)
-        return entry.fate is Fate.ACCEPTED or self.held is not None and self.held.get(login) == ballot
+        return entry.fate is Fate.ACCEPTED or self.stored is not None and self.stored.get(login) == ballot
 
     def may_have(self, entry):
         """Whether the desk has accepted it, or may have. It has not what is gone with a desk, or was refused."""
@@ -151,7 +162,7 @@ class Batch:
         """The votes of the journal that the desk has of a login, or may have, in the order of their arrivals."""
         return sorted(filter(self.may_have, self.votes.get(login, [])), key=arrived)
 
-    def known(self, ballot):
+    def standing_alone(self, ballot):
         """How it stands with a ballot by itself: that it was answered, or is not taken, or else should be sent."""
         entry = ballot.entry
         if entry and self.has(entry):
@@ -176,7 +187,7 @@ class Batch:
     def look_whose(self):
         """Finds the ballots of which a mail is there under another login too, or is from another developer."""
         entries = (entry for votes in self.votes.values() for entry in filter(self.may_have, votes))
-        sharing = Sharing(self.ballots, entries)
+        sharing = Sharing(self.ballots, chain(entries, *self.replaced.values()))
         for each in filter(self.is_open, self.ballots):
             if why := sharing.why(each) or self.why_of_another(each):
                 each.put(Standing.WHOSE, why)
@@ -184,9 +195,9 @@ class Batch:
     def is_open(self, ballot):
         """Whether nothing that was done before says how it stands with a ballot. One that may be there stays as it is.
         """
-        may_be_there = self.held is None and ballot.entry is not None and ballot.entry.fate is Fate.OPEN
-        is_answered = ballot.case is Standing.REFUSED and not ballot.is_new
-        return ballot.case in (Standing.TO_SEND, Standing.REFUSED) and not may_be_there and not is_answered
+        may_be_there = self.stored is None and ballot.entry is not None and ballot.entry.fate is Fate.OPEN
+        is_answered = ballot.standing is Standing.REFUSED and not ballot.is_new
+        return ballot.standing in (Standing.TO_SEND, Standing.REFUSED) and not may_be_there and not is_answered
 
     def why_of_another(self, ballot):
         """Why a mail is none of this voter's, by its From, or None. It tells something only where the domain is known.
@@ -203,16 +214,17 @@ class Batch:
         """Finds out how it stands with the ballots of one voter."""
         self.look_for_other_texts(ballots)
         self.look_for_earlier_ones(ballots)
-        rivals = [each for each in ballots if each.arrival.is_taken and each.case in (Standing.TO_SEND, Standing.AHEAD)]
+        coming = Standing.TO_SEND, Standing.AHEAD
+        rivals = [each for each in ballots if each.arrival.is_taken and each.standing in coming]
         is_moved = any(each.is_moved for each in ballots)
         for each in ballots:
-            if each.case is Standing.TO_SEND:
-                each.case = self.case(each, rivals, is_moved)
+            if each.standing is Standing.TO_SEND:
+                each.standing = self.standing_beside_others(each, rivals, is_moved)
                 each.token = each.entry.fields["token"] if each.entry else each.arrival.filled.token
-        sent = [each.moment for each in ballots if each.case in SENT]
+        sent = [each.moment for each in ballots if each.standing in SENT]
         for each in ballots:
-            if each.case is Standing.GONE and any(moment > each.moment for moment in sent):
-                each.case = Standing.REPLACED
+            if each.standing is Standing.GONE and any(moment > each.moment for moment in sent):
+                each.standing = Standing.REPLACED
 
     def look_for_other_texts(self, ballots):
         """Leaves undecided what has the Message-ID of another text, but the one that the journal has."""
@@ -226,19 +238,20 @@ class Batch:
 
     def look_for_earlier_ones(self, ballots):
         """Leaves undecided each new ballot that says what an earlier one of this voter said, which is not the last one:
-        somebody may have sent that again."""
+        somebody may have sent that again. The earlier one may have been replaced before it was sent."""
         votes = self.votes_there(ballots[0].login)
-        known = [Known(arrived(each), each.fields["ranks"], each.fields["token"]) for each in votes]
-        coming = (each for each in ballots if each.case is Standing.TO_SEND and each.moment < self.end)
+        known = [known_of(each) for each in votes]
+        replaced = [known_of(each) for each in self.replaced.get(ballots[0].login, [])]
+        coming = (each for each in ballots if each.standing is Standing.TO_SEND and each.moment < self.end)
         for each in sorted(coming, key=lambda each: each.moment):
-            said = Known(each.moment, *each.arrival.filled)
+            said = KnownBallot(each.moment, *each.arrival.filled)
             is_overtaken = any(other.moment > each.moment for other in known)
-            if each.is_new and not is_overtaken and (why := why_again(said, known)):
+            if each.is_new and not is_overtaken and (why := why_again(said, known, replaced)):
                 each.put(Standing.UNDECIDED, why)
             elif each.entry not in votes:
                 known = sorted([*known, said], key=lambda other: other.moment)
 
-    def case(self, ballot, rivals, is_moved):
+    def standing_beside_others(self, ballot, rivals, is_moved):
         """How it stands with a ballot of which no answer is known, beside others of its voter. `is_moved` is whether a
         file of one that came before has another time than it had."""
         votes = self.votes_there(ballot.login)
@@ -259,7 +272,8 @@ class Batch:
             return Standing.COUNTED
         if is_unsure:
             # A text may have been sent again. A mail would have another Message-ID then.
-            if "message_id" in ballot.arrival.source and ballot.digest() in self.told:
+            if "message_id" in ballot.arrival.source and ballot.digest() in self.reported:
+                ballot.is_unsure = True
                 return Standing.REPLACED
             ballot.why = MOVED
             return Standing.UNDECIDED
@@ -273,8 +287,15 @@ class Batch:
             return Standing.LATE
         if ballot.is_new and (known := at_once(ballot, votes, rivals)):
             return known
-        is_doubtful = self.held is None and ballot.entry is not None and ballot.entry.fate is Fate.OPEN
+        if self.ends_before(moment):
+            return Standing.BEHIND
+        is_doubtful = self.stored is None and ballot.entry is not None and ballot.entry.fate is Fate.OPEN
         return Standing.DOUBTFUL if is_doubtful else Standing.TO_SEND
+
+    def ends_before(self, moment):
+        """The ends of other votes that are open on the desk, and that its clock would pass by a ballot with this
+        moment: then no ballot on those could be entered any more."""
+        return [end for end in self.ends if self.clock < end <= moment]
 
     def may_be_earlier(self, ballot, votes, others):
         """Whether another ballot of the voter has an earlier time by another clock, and says something else."""
@@ -302,15 +323,18 @@ class Batch:
         return found
 
     def to_send(self):
-        return [each for each in self.ballots if each.case in SENT]
+        return [each for each in self.ballots if each.standing in SENT]
+
+    def replaced_now(self):
+        """The ballots that are replaced before they were sent, and of which the journal does not say so yet."""
+        return [each for each in self.ballots if each.standing is Standing.REPLACED and each.arrival.is_taken
+                and each.is_new and each.replaced is None and not each.is_unsure]
 
     def moments(self, ballots):
         """The moments at which these are entered, which are in the order of their arrivals. The moment is a word that
-        other accounts can see, so all have that of the last one; but none is put past the next end of a vote."""
-        own = [max(self.clock, each.moment) for each in ballots]
-        ended = [bisect_right(self.ends, moment) for moment in own]
-        last = dict(zip(ended, own))
-        return [last[count] for count in ended]
+        other accounts can see, so all have that of the last one. No end of a vote is between, since what came after one
+        waits."""
+        return [max([self.clock, *(each.moment for each in ballots)])] * len(ballots)
 
     def clock_behind(self):
         """The desk's clock once all is sent."""
@@ -319,7 +343,7 @@ class Batch:
     def unknown(self):
         """The ballots to be sent of voters of whom the desk has one that the journal does not have."""
         return [each for each in self.to_send()
-                if each.login in (self.held or ()) and not any(map(self.has, self.votes.get(each.login, [])))]
+                if each.login in (self.stored or ()) and not any(map(self.has, self.votes.get(each.login, [])))]
 
     def gone(self):
         """The logins of which the last vote of the journal is gone with the desk that had it, also if no mail of it is
@@ -331,14 +355,19 @@ class Batch:
 
     def is_done(self):
         """Whether each voter has an answer, and each ballot was entered, or replaced by one that was."""
-        cases = {each.case for each in self.ballots}
+        cases = {each.standing for each in self.ballots}
         return cases <= {Standing.COUNTED, Standing.REPLACED} and not any(self.gone())
 
 
 def ends_in(rows):
     """When the votes end that are open on the desk with these rows, in their order."""
-    resolutions = rows["resolution"].values()
-    return sorted(row["called"] + row["days"] * DAY for row in resolutions if row["stage"] == VOTING)
+    return sorted(open_votes_in(rows).values())
+
+
+def open_votes_in(rows):
+    """When each vote ends that is open on the desk with these rows, by the numbers of the resolutions."""
+    resolutions = rows["resolution"].items()
+    return {number: row["called"] + row["days"] * DAY for (number,), row in resolutions if row["stage"] == VOTING}
 
 
 def votes_in(entries, number):
@@ -348,6 +377,26 @@ def votes_in(entries, number):
         if each.is_vote and each.resolution == str(number) and each.fate not in (Fate.HELD, Fate.DROPPED):
             found.setdefault(each.fields["login"], []).append(each)
     return found
+
+
+def replaced_in(entries, number):
+    """The ballots on a resolution that a journal has of each login, and that were replaced before they were sent."""
+    found = {}
+    for each in entries.replaced:
+        if each.resolution == number:
+            found.setdefault(each.fields["login"], []).append(each)
+    return found
+
+
+def those_by(arrival, kept):
+    """Those of the journal that came by a mail, and of these the ones that say the same."""
+    own = [each for each in kept if is_by(each, arrival.mail)]
+    return own, [each for each in own if arrival.filled is None or says(each, arrival.filled)]
+
+
+def known_of(kept):
+    """What a vote of the journal says, or a ballot there that was replaced, and when it arrived."""
+    return KnownBallot(arrived(kept), kept.fields["ranks"], kept.fields["token"])
 
 
 def each_once(arrivals):
@@ -381,8 +430,8 @@ def clock_of(vote):
     if isinstance(vote, Ballot) and vote.is_new:
         return vote.arrival.clock
     entry = vote.entry if isinstance(vote, Ballot) else vote
-    told = (entry.source or {}).get("clock")
-    return Clock(told) if told in {each.value for each in Clock} else None
+    clock = (entry.source or {}).get("clock")
+    return Clock(clock) if clock in {each.value for each in Clock} else None
 
 
 def is_by(entry, mail):

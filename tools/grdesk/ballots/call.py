@@ -1,7 +1,7 @@
 """The call for votes on a resolution (Constitution, A.3.1): what is voted on, how it is counted, and how to vote."""
-from grdesk.acts.explanation import LETTERS
 from grdesk.ballots.form import folded, placed_in
 from grdesk.desk.quorum import quorum_of
+from grdesk.desk.rank import LETTERS
 from grdesk.desk.sheet import proposer_of
 from grdesk.output import counted, shown
 
@@ -42,8 +42,8 @@ def named(login, names):
 
 def proposer_text(choice, names):
     """Who proposes a choice, by name."""
-    if choice.proposer.startswith("developer "):
-        return f"proposed by {named(choice.proposer.removeprefix('developer '), names)}"
+    if choice.developer is not None:
+        return f"proposed by {named(choice.developer, names)}"
     return proposer_of(choice)
 
 
@@ -54,10 +54,10 @@ def ratio_text(ratio):
 def option(choice, names):
     """The lines of an option."""
     sponsors = ", ".join(named(login, names) for login in choice.sponsors)
-    told = proposer_text(choice, names) + (f", and sponsored by {sponsors}" if sponsors else "")
+    message = proposer_text(choice, names) + (f", and sponsored by {sponsors}" if sponsors else "")
     yield f"Choice {choice.place}: {shown(choice.summary)}"
     yield ""
-    for line in folded(f"{told[0].upper()}{told[1:]}. It needs {ratio_text(choice.ratio)}.").split("\n"):
+    for line in folded(f"{message[0].upper()}{message[1:]}. It needs {ratio_text(choice.ratio)}.").split("\n"):
         yield f"    {line}"
     yield ""
     for line in choice.text:
@@ -68,6 +68,6 @@ def quorum_text(developers):
     """The quorum of a call, in sentences."""
     quorum = quorum_of(developers)
     current = f"{counted(developers, 'developer')} {'was' if developers == 1 else 'were'} current"
-    told = f"At the call {current}, so that Q is "
-    told += f"{quorum.q} and the quorum 3Q is {quorum.three_q}, each to two digits (Constitution, 4.2.4 and 4.2.7). "
-    return f"{told}An option needs {counted(quorum.votes, 'vote')} above \"None of the above\" to meet it."
+    message = f"At the call {current}, so that Q is "
+    message += f"{quorum.q} and the quorum 3Q is {quorum.three_q}, each to two digits (Constitution, 4.2.4 and 4.2.7). "
+    return f"{message}An option needs {counted(quorum.votes, 'vote')} above \"None of the above\" to meet it."

@@ -7,15 +7,14 @@ from grdesk.journal.source import bare_message_id
 from grdesk.output import shown
 
 SAME_MOMENT = "another one of this voter arrived at the same moment, and says something else"
-MOVED = "a file of this voter's has another time than it had before, so that the time of this one tells nothing"
+MOVED = "a file of this voter has another time than before, so the time of this one proves nothing"
 OTHER_CLOCK = ("another ballot of this voter says something else, and one of the two has the time of its file or mbox, "
                "which may be long after it came")
-UNTAKEN = ("its file is later than the end, and its field Received is not taken; --received-by HOST says whose field "
-           "tells when it came")
+UNTAKEN = "its file is later than the end of the vote, and its field Received is not taken"
 SAME_ID = "another mail of this voter has the same Message-ID, and says something else"
 
 
-class Known(NamedTuple):
+class KnownBallot(NamedTuple):
     """What a ballot says, and when it arrived. The token is None where a form has none, so that one is made for it."""
 
     moment: int
@@ -32,23 +31,24 @@ class Known(NamedTuple):
         return self.ranks == later.ranks if later.token is None else self.token == later.token
 
 
-def why_again(said, known):
-    """Why a new form may be an earlier ballot of this voter, but not the last one; else None."""
+def why_again(said, known, replaced):
+    """Why a new form may be an earlier ballot of this voter, but not the last one; else None. `known` are those that
+    the desk has, or may have, or gets now. `replaced` are others, which were never sent, and are none of these."""
     earlier = [each for each in known if each.moment < said.moment]
     last = max((each.moment for each in earlier), default=None)
-    if any(each.is_same(said) for each in earlier if each.moment == last):
+    if last is None or any(each.is_same(said) for each in earlier if each.moment == last):
         return None
-    for each in earlier:
-        if each.moment != last and each.may_be(said):
+    for each in [*earlier, *replaced]:
+        if each.moment < last and each.may_be(said):
             what = "ranks" if said.token is None else "token"
-            told = f"it has the {what} of the ballot that arrived {date_of(each.moment)}, before the last one"
-            return f"{told}: somebody may have sent that again"
+            message = f"it has the {what} of the ballot that arrived {date_of(each.moment)}, before the last one"
+            return f"{message}: somebody may have sent that again"
     return None
 
 
 class Sharing:
     """By what mails and texts are known under the logins that have them: those of the ballots that came, and of votes
-    of the journal."""
+    and replaced ballots of the journal."""
 
     def __init__(self, ballots, entries):
         self.places = {}
@@ -66,8 +66,8 @@ class Sharing:
         for mark in marks_of_ballot(ballot):
             others = {login: place for login, place in self.places[mark].items() if login != ballot.login}
             if others:
-                told = ", ".join(f"{login} ({place})" for login, place in sorted(others.items()))
-                return f"the same {mark[0]} is also that of {told}"
+                message = ", ".join(f"{login} ({place})" for login, place in sorted(others.items()))
+                return f"the same {mark[0]} is also that of {message}"
         return None
 
 

@@ -2,14 +2,13 @@
 from typing import NamedTuple
 
 from grdesk.acts.resolution import sheet_in, status_in
+from grdesk.desk.rank import preference_of
 from grdesk.desk.sheet import roll_of
 from grdesk.output import counted, shown
 
 # Where fewer voted, the ballots of the tally are nearly revealed by who voted.
 FEW = 5
 ALIKE = "all ballots are alike, so that this list tells who voted how"
-# The marks of ranks, from the first one to none.
-MARKS = "123456789abcdefghijklmnopqrstuvwxyz-"
 
 
 class Electorate(NamedTuple):
@@ -42,7 +41,7 @@ class Electorate(NamedTuple):
 
 def order_of(ranks):
     """The order that ranks make, as the places among those given: 13 and 24 say the same."""
-    marks = sorted(set(ranks), key=MARKS.index)
+    marks = sorted(set(ranks), key=preference_of)
     return tuple(map(marks.index, ranks))
 
 

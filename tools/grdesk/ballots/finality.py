@@ -27,7 +27,7 @@ REMEDIES = {
     "NoDeveloper": (ROLL_CHANGED, ROLL_CHANGED),
     "NotCurrent": (ROLL_CHANGED, ROLL_CHANGED),
     "BadMoment": 2 * ("look at the machine's clock, and run this again",),
-    "NoResolution": 2 * ("look whether that is the desk of this vote, and run this again",),
+    "NoResolution": 2 * ("check that this is the desk of the vote, and run this again",),
 }
 
 
@@ -47,5 +47,5 @@ def is_final(answer, is_late):
 def remedy(answer, is_port):
     """What a passing refusal means, and what to do now."""
     name = name_of(answer)
-    told = f"{name}: {MEANINGS[name]}" if name in MEANINGS else "its answer is none of those to a vote"
-    return f"{told}. Nothing is lost; {REMEDIES.get(name, 2 * (RUN_AGAIN,))[is_port]}"
+    message = f"{name}: {MEANINGS[name]}" if name in MEANINGS else "the desk gave an answer that no vote gets"
+    return f"{message}. Nothing is lost; {REMEDIES.get(name, 2 * (RUN_AGAIN,))[is_port]}"

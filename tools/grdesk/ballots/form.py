@@ -3,12 +3,13 @@ import hashlib
 import textwrap
 from dataclasses import dataclass
 
-from grdesk.acts.explanation import DEFAULT_OPTION, RANKS
-from grdesk.acts.refusal import STAGES
+from grdesk.acts.refusal import STAGE_TEXTS
 from grdesk.dates import date_of
 from grdesk.desk.limit import DAY
+from grdesk.desk.rank import DEFAULT_OPTION, NO_RANK, rank_number
+from grdesk.desk.sheet import status_of, statuses_of
+from grdesk.error import Refused
 from grdesk.output import shown
-from grdesk.stop import Refused
 
 # What stands around the lines that a voter fills in. Neither begins with a hyphen, before which a signature in the text
 # would put another one.
@@ -64,7 +65,7 @@ class Form:
 
     def filled(self, ranks):
         """The option lines with these ranks in their boxes, which are characters of a desk."""
-        marks = (str(RANKS.find(rank) + 1 or "-") for rank in ranks)
+        marks = (str(rank_number(rank) or NO_RANK) for rank in ranks)
         return [f"[{mark:>2} ] {self.option(place)}" for place, mark in enumerate(marks, start=1)]
 
     def lines(self):
@@ -99,7 +100,18 @@ def placed_in(status):
 def form_of(status):
     """The form of a vote that was called."""
     if status.voting is None:
-        told = f"resolution {status.number} {STAGES[status.stage][0]}"
-        raise Refused(f"{told}, and has no ballot before it is called")
+        message = f"resolution {status.number} {STAGE_TEXTS[status.stage][0]}"
+        raise Refused(f"{message}, and has no ballot before it is called")
     summaries = *(shown(choice.summary) for choice in placed_in(status)), DEFAULT_OPTION
     return Form(status.number, *status.voting, status.developers, summaries)
+
+
+def forms_of_others(desk, rows, number):
+    """The forms of the other votes of a desk with these rows, and whether each is open. Only by a port, where no rows
+    are known, each resolution is asked for."""
+    if rows is None:
+        statuses = (each for each in statuses_of(desk) if each.voting)
+    else:
+        called = (each for (each,), row in rows["resolution"].items() if row["called"])
+        statuses = (status_of(each, desk.sheet("status", each)) for each in called if each != number)
+    return {form_of(each): each.stage == "Voting" for each in statuses if each.number != number}

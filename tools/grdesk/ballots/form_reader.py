@@ -5,20 +5,28 @@ import unicodedata
 from collections import deque
 from typing import NamedTuple, Optional
 
-from grdesk.acts.explanation import RANKS
 from grdesk.acts.refusal import MEANINGS
 from grdesk.ballots.form import BEGIN, END, IDENTIFIER, TOKEN
+from grdesk.desk.rank import NO_RANK, RANKS
+from grdesk.desk.token import TOKEN_FORM
+from grdesk.error import NotRead
 from grdesk.output import quoted
-from grdesk.stop import NotRead
 
 # A blank is a space or a tab, and nothing else: so it is for what verifies a signature, too.
 BLANKS = " \t"
 QUOTES = re.compile(r"[> \t]+")
 OPTION = re.compile(r"\[([^\[\]]*)\](.*)")
 RANK = re.compile("[1-9][0-9]?", re.ASCII)
-TOKEN_FORM = re.compile("[A-Za-z0-9]{8,64}", re.ASCII)
 # Of a line that is longer than this no part is an option, and to compose its characters could take hours.
 MOST_COMPOSED = 2_000
+
+
+class OfAnotherVote(NotRead):
+    """A text has no form of this vote that is filled in, and one of another vote of the desk."""
+
+    def __init__(self, form):
+        super().__init__(f"its form is one of resolution {form.number}")
+        self.form = form
 
 
 class FilledForm(NamedTuple):
@@ -44,12 +52,19 @@ def key(text):
     return unicodedata.normalize("NFC", text) if len(text) <= MOST_COMPOSED else text
 
 
-def read(form, text):
-    """What is filled in on the one form in a text."""
-    forms = [Pieces(lines).boxes_and_token(form) for lines in forms_in(text)]
+def read_form(form, text, others=()):
+    """What is filled in on the one form of this vote in a text. Beside it forms of other votes may stand there."""
+    forms, passed = [], []
+    for lines in forms_in(text):
+        if other := next((each for each in others if FormLines(lines).are_of(each)), None):
+            passed.append((other, lines))
+        else:
+            forms.append(FormLines(lines).boxes_and_token(form))
+    filled = [(boxes, token) for boxes, token in forms if any(boxes)]
+    if not filled:
+        check_of_this_vote(bool(forms), passed)
     if not forms:
         raise NotRead(f'there is no ballot: a line "{BEGIN}" is missing')
-    filled = [(boxes, token) for boxes, token in forms if any(boxes)]
     if len(filled) > 1:
         raise NotRead("two forms in it are filled in, and one is to be")
     if not filled:
@@ -57,6 +72,22 @@ def read(form, text):
     boxes, token = filled[0]
     ranks = "".join(mark_of(place, box) for place, box in enumerate(boxes, start=1))
     return FilledForm(ranks, token_of(token))
+
+
+def check_of_this_vote(is_there, passed):
+    """Refuses a text whose form of this vote is empty or not there, if it is meant for another vote: if a form of that
+    is filled in, or is there alone."""
+    for other, lines in passed:
+        if not is_there or is_filled(other, lines):
+            raise OfAnotherVote(other)
+
+
+def is_filled(form, lines):
+    """Whether a form has anything in its boxes. One that is not read may have."""
+    try:
+        return any(FormLines(lines).boxes_and_token(form)[0])
+    except NotRead:
+        return True
 
 
 def forms_in(text):
@@ -78,7 +109,7 @@ def forms_in(text):
         raise NotRead(f'a form has no end: the line "{END}" is missing')
 
 
-class Pieces:
+class FormLines:
     """The lines of a form, of which the next ones are taken. One may have been wrapped."""
 
     def __init__(self, lines):
@@ -97,6 +128,10 @@ class Pieces:
         while found != wanted and wanted.startswith(found) and self.lines:
             found += key(self.lines.popleft())
         return found == wanted
+
+    def are_of(self, form):
+        """Whether they begin with the identifier of a form."""
+        return bool(self.lines) and self.take(self.lines[0], f"{IDENTIFIER} {form.identifier()}")
 
     def boxes_and_token(self, form):
         """What stands in each box, and after the last one."""
@@ -124,8 +159,8 @@ class Pieces:
 
 def mark_of(place, box):
     """The character of a desk for what stands in a box."""
-    if box in ("", "-"):
-        return "-"
+    if box in ("", NO_RANK):
+        return NO_RANK
     if RANK.fullmatch(box) and int(box) <= len(RANKS):
         return RANKS[int(box) - 1]
     if len(re.findall("[0-9]+", box)) > 1:

@@ -1,15 +1,13 @@
 """The mails in a file, an mbox or a Maildir, and of each what a voter wrote, when it arrived and from whom it is. No
 signature is checked, and nothing that a stranger wrote stops it."""
-import hashlib
 import re
-from dataclasses import dataclass
 from functools import cached_property
 from typing import NamedTuple, Optional
 
-from grdesk.ballots.mail_head import Head
-from grdesk.ballots.mailbox import MOST_BYTES, items_at
+from grdesk.ballots.mailbox import MOST_BYTES, Item, items_at
 from grdesk.ballots.signed_text import Written, written_in_mail, written_in_text
-from grdesk.stop import NotRead
+from grdesk.error import NotRead
+from grdesk.journal.source import source_of_mail
 
 TWO_IDS = "the mail has two different fields Message-ID"
 TOO_LARGE = f"the mail has more than {MOST_BYTES:,} bytes; send only the form"
@@ -18,19 +16,15 @@ RECEIVED = re.compile(rb"^received[ \t]*:", re.I | re.M)
 MOST_OF_A_SENDER = 100
 
 
-@dataclass(frozen=True, eq=False)
-class Mail:
-    """A mail, or a text that is none. `name` says where it stands, and `modified` is the time of that file, in which
-    others may stand beside it. Of one that is too large `content` is no more than its beginning."""
+class Mail(Item):
+    """A mail, or a text that is none. It is parsed and hashed once, however often something is asked of it."""
 
-    name: str
-    content: bytes
-    modified: int
-    is_in_box: bool = False
-
-    @cached_property
-    def head(self):
-        return Head(self.content)
+    @classmethod
+    def of(cls, item):
+        """The mail that stands there, with its head if that was parsed already."""
+        mail = cls(item.name, item.content, item.modified, item.is_in_box)
+        vars(mail).update(vars(item))
+        return mail
 
     @cached_property
     def is_mail(self):
@@ -46,8 +40,7 @@ class Mail:
 
     @cached_property
     def kept_source(self):
-        digest = {"sha256": hashlib.sha256(self.content).hexdigest()}
-        return {"message_id": self.message_ids[0], **digest} if len(self.message_ids) == 1 else digest
+        return source_of_mail(self.content, self.message_ids)
 
     def key(self):
         """By what it is known: its Message-ID, or the SHA-256 of what has none. One that was delivered twice has other
@@ -62,7 +55,7 @@ class Mail:
         """The host that received it, by the same field, or nothing."""
         return self.head.host_and_date()[0] if self.is_mail else ""
 
-    @property
+    @cached_property
     def has_received(self):
         """Whether a line `Received:` is in its head, or anywhere in a text that is no mail."""
         return self.head.has_received or not self.is_mail and bool(RECEIVED.search(self.content))
@@ -96,14 +89,14 @@ class Mail:
         if len(self.message_ids) > 1:
             return TWO_IDS
         try:
-            return written_in_mail(self.content) if self.is_mail else written_in_text(self.content)
+            return written_in_mail(self.content, self.head) if self.is_mail else written_in_text(self.content)
         except NotRead as why:
             return str(why)
         except Exception as error:  # Whatever a stranger wrote, it is this mail alone that is not read.
             return f"it cannot be read as a mail: {type(error).__name__}"
 
 
-class Passed(NamedTuple):
+class SkippedMail(NamedTuple):
     """What is passed over: its name, why it is, as a sentence without `it`, and the mail, if it is one."""
 
     name: str
@@ -121,5 +114,5 @@ class Box(NamedTuple):
 def mails_at(path):
     """The mails in a file, an mbox or a Maildir, in their order there, and what is passed over."""
     found, skipped = items_at(path)
-    passed = [Passed(each.name, each.why, Mail(*each.item) if each.item else None) for each in skipped]
-    return Box([Mail(*item) for item in found], passed)
+    passed = [SkippedMail(each.name, each.why, Mail.of(each.item) if each.item else None) for each in skipped]
+    return Box([Mail.of(item) for item in found], passed)

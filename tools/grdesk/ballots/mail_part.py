@@ -7,9 +7,9 @@ from dataclasses import dataclass
 from functools import cached_property
 from typing import Optional
 
-from grdesk.ballots.mail_head import Head, decoded
+from grdesk.error import NotRead
+from grdesk.mail_head import Head, decoded
 from grdesk.output import quoted
-from grdesk.stop import NotRead
 
 MOST_PARTS, MOST_LEVELS = 500, 30
 # No more bytes are decoded of attached mails, each of which may have another one.
@@ -93,9 +93,9 @@ def from_base64(piece):
     return base64.b64decode(piece[: len(piece) - (len(piece) % 4 == 1)] + b"==")
 
 
-def parts_of(content):
-    """A mail as the part that it is."""
-    return PartReader().part(content, 0, len(content))
+def parts_of(head):
+    """The mail with this head as the part that it is."""
+    return PartReader().part(head, len(head.content))
 
 
 class PartReader:
@@ -104,14 +104,14 @@ class PartReader:
     def __init__(self):
         self.count = self.decoded = 0
 
-    def part(self, whole, begin, end, level=0, default="text/plain"):
+    def part(self, head, end, level=0, default="text/plain"):
+        """What stands behind a head, up to its end."""
         self.count += 1
         if level > MOST_LEVELS:
             raise NotRead(TOO_DEEP)
         if self.count > MOST_PARTS:
             raise NotRead(TOO_MANY)
-        head = Head(whole, begin, end)
-        kind, encoding = head.kind(default), head.encoding()
+        whole, kind, encoding = head.content, head.kind(default), head.encoding()
         if encoding not in ENCODINGS:
             raise NotRead(f"a part of the mail is encoded in {quoted(encoding)}, which is not known here")
         found = ()
@@ -131,7 +131,7 @@ class PartReader:
             self.decoded += end
             if self.decoded > MOST_DECODED:
                 raise NotRead(TOO_LARGE)
-        return self.part(whole, begin, end, level + 1)
+        return self.part(Head(whole, begin, end), end, level + 1)
 
     def parts(self, whole, begin, end, level, kind):
         """The parts of a multipart. The line between two of them ends the one, with the line end before it."""
@@ -142,12 +142,13 @@ class PartReader:
         for line in lines_between(whole, begin, end, kind.boundary):
             if last is not None:
                 part_end = line.start() - (whole[line.start() - 1 : line.start()] == b"\r")
-                yield self.part(whole, last, max(last, part_end), level + 1, default)
+                part_end = max(last, part_end)
+                yield self.part(Head(whole, last, part_end), part_end, level + 1, default)
             if line[1]:
                 return
             last = min(end, line.end() + 1)
         if last is not None:
-            yield self.part(whole, last, end, level + 1, default)
+            yield self.part(Head(whole, last, end), end, level + 1, default)
 
 
 def lines_between(whole, begin, end, boundary):

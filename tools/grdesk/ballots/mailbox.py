@@ -4,9 +4,11 @@ import os
 import re
 import stat
 from contextlib import contextmanager
+from dataclasses import dataclass
+from functools import cached_property
 from typing import NamedTuple, Optional
 
-from grdesk.ballots.mail_head import Head
+from grdesk.mail_head import Head
 
 # The folders of a Maildir with mails that were delivered.
 PARTS = "new", "cur"
@@ -30,14 +32,19 @@ SEPARATOR = re.compile(
 )
 
 
-class Item(NamedTuple):
+@dataclass(frozen=True, eq=False)
+class Item:
     """The bytes of a mail, or of a text: where they stand, the time of their file, and whether others may stand beside
-    them there."""
+    them there. Of one that is too large `content` is no more than its beginning."""
 
     name: str
     content: bytes
     modified: int
-    is_in_box: bool
+    is_in_box: bool = False
+
+    @cached_property
+    def head(self):
+        return Head(self.content)
 
 
 class Skipped(NamedTuple):
@@ -93,7 +100,7 @@ def opened(name, folder=None):
 
 def check_kind(about):
     if not stat.S_ISREG(about.st_mode):
-        raise Unreadable(next((told for is_it, told in KINDS if is_it(about.st_mode)), "is no file"))
+        raise Unreadable(next((name for is_it, name in KINDS if is_it(about.st_mode)), "is no file"))
 
 
 @contextmanager
@@ -130,7 +137,7 @@ def put_file(name, file, found, passed):
     if SEPARATOR.fullmatch(first):
         for number, mail in enumerate(mails_of_mbox(file), start=1):
             item = mail.item(f"{name}, mail {number}", modified, True)
-            if why := why_left_out(item.content):
+            if why := why_left_out(item.head):
                 passed.append(Skipped(item.name, why, item))
             else:
                 found.append(item)
@@ -163,9 +170,8 @@ def mails_of_mbox(file):
     yield mail
 
 
-def why_left_out(content):
-    """Why a mail of an mbox is left out, or None."""
-    head = Head(content)
+def why_left_out(head):
+    """Why a mail of an mbox with this head is left out, or None."""
     status, more = ("".join(map(head.text, head.all(name))) for name in ("Status", "X-Status"))
     if "D" in status + more:
         return TRASHED

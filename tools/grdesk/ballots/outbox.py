@@ -2,12 +2,13 @@
 login, so it is for that voter alone. No mail is written twice, also where the first was sent and taken away since."""
 import os
 import re
+import stat
 from contextlib import suppress
 from email.message import EmailMessage
 from email.policy import default
 
+from grdesk.error import Failed, Refused
 from grdesk.new_file import BEGUN, Folder, naming, write_all
-from grdesk.stop import Failed, Refused
 
 # Lines of a mail that are not folded: up to so many characters one may have (RFC 5322, 2.1.1).
 POLICY = default.clone(max_line_length=998, cte_type="8bit")
@@ -31,19 +32,21 @@ class Outbox:
             self.written = self.place.open(WRITTEN, os.O_RDWR | os.O_CREAT | os.O_APPEND)
         except OSError as error:
             raise Failed(f"{folder} cannot be used as an outbox: {error.strerror}") from None
+        if not stat.S_ISREG(os.fstat(self.written).st_mode):
+            raise Failed(f"{folder} cannot be used as an outbox: {self.place.path_of(WRITTEN)} is no file; remove it")
         with open(self.written, "rb", closefd=False) as file:
             lines = file.read()
         # A stop may have cut off the last one, and left a mail without its name.
         self.length = lines.rfind(b"\n") + 1
         os.ftruncate(self.written, self.length)
-        self.known = set(lines[: self.length].decode().split())
+        self.digests = set(lines[: self.length].decode().split())
         for name in self.place.names():
             if name.endswith(BEGUN):
                 self.place.remove(name)
 
     def has(self, digest):
         """Whether the mail with this digest was written before, or the ballot reported."""
-        return digest in self.known
+        return digest in self.digests
 
     def put(self, login, answer):
         """Writes an answer, where it was not written before: under its name at once and whole. Gives whether it did.
@@ -68,7 +71,7 @@ class Outbox:
                     os.ftruncate(self.written, self.length)
                     raise
             self.length += len(lines)
-            self.known.update(new)
+            self.digests.update(new)
 
     def end(self):
         self.place.sync()
@@ -80,11 +83,11 @@ def check_private_folder(place):
     if about.st_uid != os.geteuid():
         raise Refused(f"nothing was done: {place.path} belongs to another account: name an outbox of your own")
     if about.st_mode & 0o077:
-        told = f"nothing was done: other accounts may enter {place.path}, which tells who voted how"
-        raise Refused(f"{told}: chmod 700 it")
+        message = f"nothing was done: other accounts may enter {place.path}, which shows who voted how"
+        raise Refused(f"{message}: chmod 700 it")
     names = place.names()
     if names and WRITTEN not in names:
-        raise Refused(f"nothing was done: {place.path} is no outbox, and is not empty")
+        raise Refused(f"nothing was done: {place.path} is not empty, and is not an outbox: name a new folder")
 
 
 def check_apart(folder):
@@ -93,13 +96,13 @@ def check_apart(folder):
     above = place
     while True:
         if os.path.lexists(os.path.join(above, WRITTEN)):
-            raise Refused(f"nothing was written: {folder} lies in the outbox {above}")
+            raise Refused(f"nothing was written: {folder} is inside the outbox {above}: name another folder")
         if above == os.path.dirname(above):
             break
         above = os.path.dirname(above)
     for below, _, files in os.walk(place):
         if WRITTEN in files:
-            raise Refused(f"nothing was written: {folder} holds the outbox {below}")
+            raise Refused(f"nothing was written: {folder} contains the outbox {below}: name another folder")
 
 
 def mail_of(subject, text, to, answered):

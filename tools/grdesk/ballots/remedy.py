@@ -28,11 +28,11 @@ class Remedy:
         """What the table says."""
         leave = "take it out of its mbox" if ballot.arrival.mail.is_in_box else "move its file out of FOLDER"
         if ballot.arrival.filled is None:
-            yield f"its form is not read, since {ballot.arrival.why}; once the voter was asked, {leave}"
+            yield f"its form cannot be read: {ballot.arrival.why}. Ask the voter, and then {leave}"
         elif self.moment(ballot) >= self.end:
-            yield f"it can only be entered past the end of the vote; once the voter was asked, {leave}"
+            yield f"it can only be entered past the end of the vote: ask the voter, and then {leave}"
         else:
-            yield f"once the voter was asked, {leave}; or type this, and its ranks and its token in a line each:"
+            yield f"ask the voter, and then {leave}; or type this line, then the ranks and the token in a line each:"
             yield f"    {self.line(ballot)}"
 
     def moment(self, ballot):

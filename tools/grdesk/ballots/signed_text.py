@@ -17,7 +17,7 @@ from grdesk.ballots.armour import (
 )
 from grdesk.ballots.form import BEGIN, END
 from grdesk.ballots.mail_part import Part, parts_of
-from grdesk.stop import NotRead
+from grdesk.error import NotRead
 
 ENCRYPTED = ["multipart/encrypted", "application/pgp-encrypted", "application/pkcs7-mime", "application/x-pkcs7-mime"]
 PGP_SIGNATURE = "application/pgp-signature"
@@ -46,19 +46,19 @@ class Written(NamedTuple):
 def written_in_text(content):
     """What is written in a text that is no mail."""
     check_begin(content)
-    return Mailed(content, Part(content, 0, len(content))).written()
+    return MailOfParts(content, Part(content, 0, len(content))).written()
 
 
-def written_in_mail(content):
+def written_in_mail(content, head):
     """What is written in a mail."""
     check_begin(content)
-    return Mailed(content, parts_of(content)).written()
+    return MailOfParts(content, parts_of(head)).written()
 
 
 def check_begin(content):
     """Looks whether a file may begin with a packet. A verifier takes it for a signed message then, and the text in it
-    or behind it for none. No signature is UTF-8 by chance. A compressed message may be made so, but it has its method, a
-    byte of at most 3, as a signature that is not compressed has its version."""
+    or behind it for none. No signature is UTF-8 by chance. A compressed message may be made so, but it has its method,
+    a byte of at most 3, as a signature that is not compressed has its version."""
     if content[:1] >= b"\x80":
         try:
             content.decode()
@@ -68,7 +68,7 @@ def check_begin(content):
             raise NotRead(PACKETS)
 
 
-class Mailed:
+class MailOfParts:
     """A mail with its parts, and the armour lines in it: those of the file as it is, and those of each part that only
     show once it is decoded."""
 

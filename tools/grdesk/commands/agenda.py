@@ -1,48 +1,14 @@
-"""Says what is due on a desk: what may be called or closed, what waits, and what comes next.
-
-    gr-desk agenda DESK [--at DATE] [--due] [--journal FILE]
-    gr-desk agenda [--port P | --socket PATH] [--at DATE] [--due]
-
-DESK is the file of a desk. It is read from a copy, which is made as by gr-desk backup, and taken away again; so `serve`
-may hold it, and loses no connection. Without DESK the sheets are asked of the `serve` on port P or behind the socket
-PATH, or of that of the environment variable GR_DESK_PORT or GR_DESK_SOCKET. Each sheet is one of the connections that
-`serve` counts, and the last line says how many there were. Acts may come between them.
-
-The agenda is that of the machine's clock, or of DATE: 2026-01-14T21:07:00Z, '2026-01-14 21:07 +01:00' or the like, or
-seconds since 1970. These stand in brackets after each date that is printed. It begins with what may be done now, and
-with the moments that come next. Then it has each resolution that is open: how many sponsors each choice has, how many
-are required for it, and when a short one lapses. A resolution is open until it is cancelled, or has a winner.
-
---journal says which held acts of DESK wait in FILE (gr-desk act --hold), and from when on gr-desk journal due enters
-each. Without it the environment variable GR_DESK_JOURNAL names FILE, which is passed over where it is not there, or is
-the journal of another desk: a line on error output says so. What is held moves nothing else on the agenda. But an act
-waits for the held ones with earlier dates, so a line of what may be done now names those that come first. Of held
-votes it says only that there are some. By a port the agenda knows of no held act.
-
-Where that moment is before the desk's clock, each act at it is `refused 2 ClockBack`. A warning on error output says
-so, and nothing may be done now. The file has the desk's clock. The sheets on a port do not tell it, but for the latest
-act that they show, so there the warning may be missing.
-
-All this is advice, made from the sheets. The desk judges each act when it comes: by its own clock, which gr-desk clock
-shows, and by the roll of that moment. What shows nothing itself, as a mark of direction in a summary, stands here as
-<U+202E>.
-
-While it runs, private copies of the desk lie in $XDG_RUNTIME_DIR, or else in gr-desk-UID of $TMPDIR or /tmp.
-
-The exit status is 0 where the agenda was printed, 1 where --journal names that of another desk, 2 where the words are
-wrong, and 3 where a sheet could not be read; a line on error output says why. With --due it is 4 where something may be
-done now, also by gr-desk journal due, as for a timer that calls somebody.
-"""
+"""Say what may be done on a desk now, what waits, and what comes next"""
 import time
 
 from grdesk.acts.moment import late_clock
 from grdesk.dates import dated, moment_number
-from grdesk.desk.limit import CALL, EARLIEST, LATEST, REMEDY
+from grdesk.desk.limit import CALL, EARLIEST, LATEST
 from grdesk.desk.quorum import sponsors_wanted
 from grdesk.desk.sheet import ServedSheets, add_desk, outcome_of, proposer_of, roll_of, sheets_of, statuses_of
 from grdesk.journal.journal import entries_of
 from grdesk.output import counted, note, say, shown
-from grdesk.parser import Parser
+from grdesk.parser import ADDRESS, COPIES, JOURNAL, Parser
 
 # The exit status where --due is said, and something may be done now.
 DUE = 4
@@ -162,7 +128,7 @@ class Agenda:
             is_over = status.discussion and self.at >= status.discussion[1]
             yield f"        not introduced{', and the discussion is over' if is_over else ''}"
         elif choice.short is not None:
-            lapse = choice.short + REMEDY
+            lapse = choice.lapse
             if self.at >= lapse:
                 yield f"        lapsed {dated(lapse)}"
             else:
@@ -171,7 +137,7 @@ class Agenda:
                 yield f"        short since {dated(choice.short)}, and lapses {dated(lapse)}"
 
     def is_live(self, choice):
-        return choice.introduced is not None and (choice.short is None or self.at < choice.short + REMEDY)
+        return choice.introduced is not None and (choice.lapse is None or self.at < choice.lapse)
 
     def wants_of(self, choice):
         """How many sponsors are required for a choice (Constitution, 4.2.1)."""
@@ -231,9 +197,9 @@ def moments_of(status):
         yield choice.short or 0
 
 
-def clock_warning(at, is_given, clock, is_told):
+def clock_warning(at, is_given, clock, is_exact):
     """What is said of a moment that is before the desk's clock, or before what is known of it."""
-    return late_clock(counted(clock - at, "second") + ("" if is_told else " or more"), is_given)
+    return late_clock(counted(clock - at, "second") + ("" if is_exact else " or more"), is_given)
 
 
 def casting_of(desk, status):
@@ -244,19 +210,32 @@ def casting_of(desk, status):
     return outcome.places if outcome.is_open else []
 
 
-def reader():
-    parser = Parser(__doc__)
-    add_desk(parser)
-    parser.add_argument("--at", type=moment_number)
-    parser.add_flag("--due")
-    parser.add_argument("--journal", metavar="FILE")
-    return parser
+def parser():
+    command = Parser(
+        "agenda",
+        __doc__,
+        ["DESK [--at DATE] [--due] [--journal FILE]", "[--port P | --socket PATH] [--at DATE] [--due]"],
+        examples=["gr-desk agenda desk.db", "gr-desk agenda --port 8080 --at '2026-01-22 00:00 +00:00'"],
+        statuses=[
+            (0, "printed"),
+            (1, "--journal names the journal of another desk"),
+            (2, "wrong words"),
+            (3, "a sheet could not be read; a line says why"),
+            (4, "with --due: something may be done now"),
+        ],
+        environment=ADDRESS + JOURNAL + COPIES,
+    )
+    add_desk(command)
+    command.add_argument("--at", type=moment_number, metavar="DATE", help="the agenda of DATE (default: now)")
+    command.add_flag("--due", help="end with status 4 if something may be done now, for a timer")
+    command.add_argument("--journal", metavar="FILE", help="also list the acts on hold in this journal of DESK")
+    return command
 
 
-def run(words):
-    at = int(time.time()) if words.at is None else words.at
-    entries = entries_of(words)
-    with sheets_of(words) as desk:
+def run(arguments):
+    at = int(time.time()) if arguments.at is None else arguments.at
+    entries = entries_of(arguments)
+    with sheets_of(arguments) as desk:
         developers = sum(developer.is_current for developer in roll_of(desk.sheet("roll")))
         made, resolutions = Agenda(at, developers), 0
         for status in statuses_of(desk):
@@ -268,8 +247,8 @@ def run(words):
             made.hold(entries, header)
         text = made.text(developers, resolutions, clock)
         if isinstance(desk, ServedSheets):
-            text += f"\n{desk.asked} sheets were asked for, each by a connection of `serve`\n"
+            text += f"\n{desk.requests} sheets were asked for, each by a connection of `serve`\n"
     say(text.encode())
     if EARLIEST <= at < clock:
-        note(f"warning: {clock_warning(at, words.at is not None, clock, header is not None)}")
-    return DUE if words.due and made.due(clock) else 0
+        note(f"warning: {clock_warning(at, arguments.at is not None, clock, header is not None)}")
+    return DUE if arguments.due and made.due(clock) else 0

@@ -1,14 +1,4 @@
-"""Says that a unit of systemd failed, and mails it to root.
-
-    gr-desk alarm UNIT
-
-The units of the desk run it if one of them fails (OnFailure=). A line on error output, which is the log, names UNIT.
-Root gets the same by mail, if there is `sendmail` or `mail` to send one. Neither says anything about the desk:
-`journalctl -u UNIT` says why it failed. A program that takes more than a minute to send the mail is ended.
-
-The exit status is 0 if that was done, 2 if the words are wrong, and 3 if a mail could not be sent; a line on error
-output says why.
-"""
+"""Log that a unit of systemd failed, and mail it to root"""
 import os
 import re
 import shutil
@@ -16,9 +6,9 @@ import socket
 import subprocess
 from email.message import EmailMessage
 
+from grdesk.error import Failed, Wrong
 from grdesk.output import note
 from grdesk.parser import Parser
-from grdesk.stop import Failed, Wrong
 
 # Where programs of mail stand that users have not among theirs.
 PLACES = os.pathsep.join([os.environ.get("PATH", os.defpath), "/usr/sbin", "/usr/lib"])
@@ -61,14 +51,20 @@ def send(mail):
         raise Failed(f"the mail to root was not sent: {line[0]} ended with status {ran.returncode}")
 
 
-def reader():
-    parser = Parser(__doc__)
-    parser.add_argument("unit", type=unit_name, metavar="UNIT")
-    return parser
+def parser():
+    command = Parser(
+        "alarm",
+        __doc__,
+        ["UNIT"],
+        examples=["gr-desk alarm gr_desk.service"],
+        statuses=[(0, "done"), (2, "wrong words"), (3, "a mail could not be sent; a line says why")],
+    )
+    command.add_argument("unit", type=unit_name, metavar="UNIT", help="the unit that failed")
+    return command
 
 
-def run(words):
-    lines = [f"{words.unit} failed", f"journalctl -u {words.unit} says why"]
+def run(arguments):
+    lines = [f"{arguments.unit} failed", f"journalctl -u {arguments.unit} says why"]
     note("; ".join(lines))
-    send(mail_of(words.unit, lines))
+    send(mail_of(arguments.unit, lines))
     return 0

@@ -1,66 +1,38 @@
-"""Writes the form for a ballot and the call for votes, and reads what was filled in.
-
-    gr-desk ballot form DESK R > form.txt
-    gr-desk ballot call DESK R > call.txt
-    gr-desk ballot read DESK R FILE ..
-
-Each of them also takes --port P or --socket PATH in the place of DESK, or none of them where the environment variable
-GR_DESK_PORT or GR_DESK_SOCKET has it. DESK is read from a copy, also while `serve` holds it; by a port or a socket each
-sheet is one of the connections that `serve` counts. Where the first word is a number, it is R: a desk with such a name
-is written as ./1.
-
-`form` writes what goes out once resolution R is called: when votes are taken, how the form is filled in, and between
-two marker lines an identifier, a line for each place and one for a token. `call` writes the call for votes, with the
-form at its end: the options with their texts, who proposes and sponsors each, the quorum, how votes are counted, and
-how a voter finds the ballot in the tally.
-
-`read` prints a line for each mail, `ok RANKS` or `refused REASON`, in words that can be sent to the voter. FILE is a
-text, a mail, an mbox or a Maildir; of several mails, or if one is refused, error output says which is which. It also
-names what is passed over: trashed mails, drafts, and what is no regular file in a Maildir. If something in a mail is
-signed, only the signed text is read, and a form outside of it is refused. The RANKS are in the characters of a desk, as
-gr-desk act takes them; a token is checked, and not printed. What a line of a form may look like, and each reason for a
-refusal, is in docs/formats.md ("Ballots in mails"). No signature is checked, and nothing is entered: gr-desk votes does
-that.
-
-While it runs, private copies of the desk lie in $XDG_RUNTIME_DIR, or else in gr-desk-UID of $TMPDIR or /tmp.
-
-The exit status is 0 if all was written, or read; 1 if the resolution has no ballot yet, a form is refused, or
-something is passed over; 2 if the words are wrong; and 3 if a sheet or a file could not be read. A line on error output
-says why.
-"""
+"""Write the form for a ballot and the call for votes, and read filled forms"""
 import os
 
-from grdesk.acts.resolution import status_in, take_desk
+from grdesk.acts.resolution import DESK_AND_R, status_in, take_desk
 from grdesk.ballots.call import call_of
-from grdesk.ballots.form import form_of
-from grdesk.ballots.form_reader import read
+from grdesk.ballots.form import form_of, forms_of_others
+from grdesk.ballots.form_reader import read_form
 from grdesk.ballots.mail import mails_at
 from grdesk.desk.address import add_address
 from grdesk.desk.sheet import roll_of, sheets_of
+from grdesk.error import Failed, NotRead, Refused, Wrong
 from grdesk.output import note, say, shown
-from grdesk.parser import Parser
-from grdesk.stop import Failed, NotRead, Refused, Wrong
+from grdesk.parser import ADDRESS, COPIES, Parser
 
 
-def write_form(words, _):
-    with sheets_of(words) as desk:
-        form = form_of(status_in(desk, words.resolution))
+def write_form(arguments, _):
+    with sheets_of(arguments) as desk:
+        form = form_of(status_in(desk, arguments.resolution))
     say(form.text().encode())
     return 0
 
 
-def write_call(words, _):
-    with sheets_of(words) as desk:
-        status = status_in(desk, words.resolution)
+def write_call(arguments, _):
+    with sheets_of(arguments) as desk:
+        status = status_in(desk, arguments.resolution)
         form = form_of(status)
         text = call_of(status, form, roll_of(desk.sheet("roll")))
     say(text.encode())
     return 0
 
 
-def read_files(words, names):
-    with sheets_of(words) as desk:
-        form = form_of(status_in(desk, words.resolution))
+def read_files(arguments, names):
+    with sheets_of(arguments) as desk:
+        form = form_of(status_in(desk, arguments.resolution))
+        others = forms_of_others(desk, desk.rows(), arguments.resolution)
     mails, passed = [], []
     for name in names:
         # The words may name a link, since they are no stranger's.
@@ -78,7 +50,7 @@ def read_files(words, names):
     refused = len(passed)
     for mail in mails:
         try:
-            line = f"ok {read(form, mail.written().text).ranks}"
+            line = f"ok {read_form(form, mail.written().text, others).ranks}"
         except NotRead as why:
             line = f"refused {why}"
             refused += 1
@@ -90,22 +62,42 @@ def read_files(words, names):
 
 # What each command does, and whether there are words after R.
 COMMANDS = {"form": (write_form, False), "call": (write_call, False), "read": (read_files, True)}
+PURPOSES = {
+    "form": "write the form that goes to the voters",
+    "call": "write the call for votes, with the form at its end",
+    "read": "print the ranks of each filled form, or why it is refused",
+}
 
 
-def reader():
-    parser = Parser(__doc__)
-    parser.add_argument("command", metavar="COMMAND", nargs="?")
-    parser.add_argument("rest", metavar="WORD", nargs="*")
-    add_address(parser)
-    return parser
+def parser():
+    command = Parser(
+        "ballot",
+        __doc__,
+        ["form DESK R > form.txt", "call DESK R > call.txt", "read DESK R FILE .."],
+        examples=["gr-desk ballot form desk.db 1 > form.txt"],
+        statuses=[
+            (0, "written, or read"),
+            (1, "no ballot yet, a form is refused, or something is passed over"),
+            (2, "wrong words"),
+            (3, "a sheet or a file could not be read; a line says why"),
+        ],
+        environment=ADDRESS + COPIES,
+    )
+    for name, purpose in PURPOSES.items():
+        files = [("FILE", "a text, a mail, an mbox or a Maildir")] if name == "read" else []
+        line = "DESK R FILE .." if files else f"DESK R > {name}.txt"
+        example = f"gr-desk ballot {name} desk.db 1 {'mail.eml' if files else f'> {name}.txt'}"
+        command.add_command(name, purpose, [line], examples=[example]).add_words(*DESK_AND_R, *files)
+    add_address(command)
+    return command
 
 
-def run(words):
-    if words.command not in COMMANDS:
-        raise Wrong(f"there is no command {words.command or ''!r}; they are {', '.join(COMMANDS)}")
-    command, has_files = COMMANDS[words.command]
-    rest = take_desk(words, words.rest)
+def run(arguments):
+    if arguments.command not in COMMANDS:
+        raise Wrong(f"there is no command {arguments.command or ''!r}; they are {', '.join(COMMANDS)}")
+    command, has_files = COMMANDS[arguments.command]
+    rest = take_desk(arguments, arguments.rest)
     if bool(rest) != has_files:
-        told = "needs the name of a FILE after R" if has_files else f"has a word too many: {rest[0]!r}"
-        raise Wrong(f"{words.command} {told}; gr-desk ballot --help says more")
-    return command(words, rest)
+        message = "needs the name of a FILE after R" if has_files else f"has a word too many: {rest[0]!r}"
+        raise Wrong(f"{arguments.command} {message}; gr-desk ballot --help says more")
+    return command(arguments, rest)

@@ -1,27 +1,4 @@
-"""Sends the newest copy of a desk to a second place, as one file that is encrypted.
-
-    gr-desk copy_out DESK FOLDER
-
-FOLDER has copies that gr-desk backup --thin or --keep made of DESK. The newest of them, three files, is one file then,
-by tar. That is filled up with zeros to a whole number of 16 MiB, and encrypted without compression. So the size of what
-is sent does not tell how many ballots came, and nothing else does: send one each hour, whether acts came or not.
-
-The environment says how, as systemd reads it from /etc/default/gr-desk:
-
-    COPY_KEY='/etc/gr-desk.asc'                   for whom it is encrypted
-    COPY_TO='scp -q "$1" vote@example.org:desk/'  what sends it
-
-COPY_KEY is a public key: of age, as age1.., or of gpg, by the name of a file that has it or, with no / in it, as
-`gpg --recipient` takes it. COPY_TO is a line of the shell, in which "$1" is the name of the file. Its own name has the
-hour at which it is sent, and not the time of the copy, as desk.db-20260115T03Z.tar.gpg. It is taken away after that.
-Until then it lies in a private folder, in $XDG_RUNTIME_DIR, or else in gr-desk-UID of $TMPDIR or /tmp.
-
-To have a desk again, decrypt it, as by `gpg --decrypt`, unpack that by `tar -xi`, and say gr-desk restore. The `i` has
-tar read on over the zeros.
-
-Without COPY_KEY or COPY_TO nothing is sent. The exit status is 0 where it was sent, 1 where nothing says how, or there
-is no copy, 2 where the words are wrong, and 3 where it failed; a line on error output says why.
-"""
+"""Encrypt the newest copy of a desk, and send it to a second place"""
 import os
 import subprocess
 import tarfile
@@ -29,11 +6,11 @@ import time
 from contextlib import suppress
 
 from grdesk.desk.change import is_whole
-from grdesk.desk.copy import folder_outside, odd_part, parts_of, private_folder
-from grdesk.desk.retention import copies_until
+from grdesk.desk.copy import folder_outside, odd_part, parts_at, private_folder
+from grdesk.desk.retention import base_of, copies_until
+from grdesk.error import Failed, Refused
 from grdesk.output import say
-from grdesk.parser import Parser
-from grdesk.stop import Failed, Refused
+from grdesk.parser import COPIES, Parser
 
 WHOLE = 16 << 20
 
@@ -53,7 +30,7 @@ class PaddedStream:
         self.write(bytes(-self.length % WHOLE))
 
 
-def asked(name):
+def setting(name):
     """What the environment says."""
     text = os.environ.get(name)
     if not text:
@@ -62,7 +39,7 @@ def asked(name):
 
 
 def newest_copy(desk, folder):
-    base = os.path.basename(desk.rstrip("/"))
+    base = base_of(desk)
     copies = copies_until(int(time.time()), folder, base)
     if not copies:
         raise Refused(f"nothing was sent: {folder} has no copy of {base}")
@@ -112,7 +89,7 @@ def encrypt(copy, line, target):
 def pack(copy, stream):
     filled = PaddedStream(stream)
     with tarfile.open(fileobj=filled, mode="w|") as packed:
-        for part in sorted(parts_of(copy)):
+        for part in sorted(parts_at(copy)):
             packed.add(part, os.path.basename(part))
     filled.fill()
     stream.close()
@@ -120,7 +97,7 @@ def pack(copy, stream):
 
 def room_for(copy):
     """How many bytes the parts of a copy take at most, as one file that is encrypted."""
-    return WHOLE * (2 + sum(map(os.path.getsize, parts_of(copy))) // WHOLE)
+    return WHOLE * (2 + sum(map(os.path.getsize, parts_at(copy))) // WHOLE)
 
 
 def send(line, path):
@@ -131,16 +108,28 @@ def send(line, path):
         raise Failed(f"COPY_TO ended with status {ran.returncode}, so the copy may not have come")
 
 
-def reader():
-    parser = Parser(__doc__)
-    parser.add_argument("desk", metavar="DESK")
-    parser.add_argument("folder", metavar="FOLDER")
-    return parser
+def parser():
+    command = Parser(
+        "copy_out",
+        __doc__,
+        ["DESK FOLDER"],
+        examples=["gr-desk copy_out desk.db backups"],
+        statuses=[
+            (0, "sent"),
+            (1, "COPY_KEY or COPY_TO is not set, or there is no copy"),
+            (2, "wrong words"),
+            (3, "failed; a line says why"),
+        ],
+        environment=["COPY_KEY", "COPY_TO"] + COPIES,
+    )
+    command.add_argument("desk", metavar="DESK", help="the file of the desk")
+    command.add_argument("folder", metavar="FOLDER", help="where gr-desk backup --thin or --keep puts its copies")
+    return command
 
 
-def run(words):
-    key, line = asked("COPY_KEY"), asked("COPY_TO")
-    base, copy = newest_copy(words.desk, words.folder)
+def run(arguments):
+    key, line = setting("COPY_KEY"), setting("COPY_TO")
+    base, copy = newest_copy(arguments.desk, arguments.folder)
     hour = time.strftime("%Y%m%dT%HZ", time.gmtime(time.time()))
     with private_folder() as home, private_folder(room=room_for(copy)) as folder:
         ending, encrypts = encryption(key, str(home))

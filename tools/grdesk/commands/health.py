@@ -1,36 +1,15 @@
-"""Says whether a desk that is served is well.
-
-    gr-desk health [--port P | --socket PATH] [--copies FOLDER] DESK
-
-It prints a line for each of these that is wrong, and otherwise `ok`:
-
-    the `serve` on port P, or behind the socket PATH, answers `GET /roll` within ten seconds
-    the machine's clock is not before that of the desk, which would refuse each act
-    the newest copy in FOLDER is a file, and younger than an hour if the desk has changed since
-    100 MB are free for DESK, and for its copies
-
-DESK is the file of the desk, which is read from a copy, even while `serve` holds it. FOLDER is `backups` beside it if
-none is given. A copy is as young as the last run of gr-desk backup --thin that found the desk unchanged since; a time
-in the future counts as old. Without --port and --socket, the environment variable GR_DESK_PORT or GR_DESK_SOCKET says
-where the desk is. The answer takes one of the connections that `serve` counts. No line has a clock or a count, since
-these tell when votes came.
-
-While it runs, private copies of the desk lie in $XDG_RUNTIME_DIR, or else in gr-desk-UID of $TMPDIR or /tmp.
-
-The exit status is 0 if all is well, 1 if a line says what is not, 2 if the words are wrong, and 3 if the desk or its
-copies could not be read; a line on error output says why.
-"""
+"""Say whether a desk that is served is well"""
 import os
 import time
 
 from grdesk.desk.address import add_address, address_of
 from grdesk.desk.change import is_changed
-from grdesk.desk.copy import copied_again, copy_desk, desk_at, odd_part, private_folder
+from grdesk.desk.copy import copy_desk, desk_at, odd_part, private_folder
 from grdesk.desk.request import NoResponse, exchange, request_of
-from grdesk.desk.retention import HOUR, copies_until
+from grdesk.desk.retention import HOUR, base_of, copies_until
 from grdesk.desk.row import header_in
 from grdesk.output import say_line
-from grdesk.parser import Parser
+from grdesk.parser import ADDRESS, COPIES, Parser
 
 # How long an answer may take, in seconds.
 PATIENCE = 10
@@ -45,7 +24,7 @@ def about_answer(address):
         yield f"{address} gave no answer to GET /roll within ten seconds: {error}"
     else:
         if status != 200:
-            yield f"{address} answered GET /roll by status {status}, and not by the roll"
+            yield f"{address} answered GET /roll with status {status}, and not with the roll"
 
 
 def about_room(*folders):
@@ -74,31 +53,43 @@ def about_copies(copy, header, folder, base, now):
         yield f"the desk has changed, and {folder} has no copy of the last hour"
 
 
-def wrong(words, address):
+def wrong(arguments, address):
     """What is wrong, a line for each."""
-    file = desk_at(words.desk)
-    folder = words.copies or os.path.join(os.path.dirname(file), "backups")
+    file = desk_at(arguments.desk)
+    folder = arguments.copies or os.path.join(os.path.dirname(file), "backups")
     yield from about_answer(address)
     yield from about_room(os.path.dirname(file), folder)
     with private_folder() as work:
         copy = str(work / "desk")
         copy_desk(file, copy)
-        header = header_in(copied_again(copy), words.desk)
+        header = header_in(copy, arguments.desk)
         # An act may have come up to here.
         now = time.time()
         if header.clock > now:
             # By such a clock no copy has an age.
-            yield "the machine's clock is before the desk's, which refuses each act until then"
+            yield "the machine's clock is behind the desk's, which refuses each act until then"
         else:
-            yield from about_copies(copy, header, folder, os.path.basename(words.desk.rstrip("/")), now)
+            yield from about_copies(copy, header, folder, base_of(arguments.desk), now)
 
 
-def reader():
-    parser = Parser(__doc__)
-    add_address(parser)
-    parser.add_argument("--copies", metavar="FOLDER")
-    parser.add_argument("desk", metavar="DESK")
-    return parser
+def parser():
+    command = Parser(
+        "health",
+        __doc__,
+        ["[--port P | --socket PATH] [--copies FOLDER] DESK"],
+        examples=["gr-desk health --port 8080 desk.db"],
+        statuses=[
+            (0, "all is well"),
+            (1, "a line says what is not"),
+            (2, "wrong words"),
+            (3, "the desk or its copies could not be read; a line says why"),
+        ],
+        environment=ADDRESS + COPIES,
+    )
+    add_address(command)
+    command.add_argument("--copies", metavar="FOLDER", help="where its copies are (default: `backups` beside DESK)")
+    command.add_argument("desk", metavar="DESK", help="the file of the desk; `serve` may have it open")
+    return command
 
 
 def run(words):

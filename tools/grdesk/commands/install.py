@@ -1,35 +1,16 @@
-"""Lays down the built, proved program and the tools in a folder of their own, for a vote in earnest:
-
-  gr-desk install PREFIX
-
-PREFIX gets gr_desk, which is the program itself, tools/ with the tools, and bin/gr-desk, which runs them, for a PATH;
-examples/ with recount and check_receipt, man pages in man/man1/, what completes words in bash in completion/gr-desk,
-README.md, CHANGELOG.md, and docs/ with rules.md, formats.md and service.md. In systemd/ it gets units that serve a desk
-behind a socket or on a port, and timers with units that copy it. None of these is enabled, or copied elsewhere:
-docs/service.md says how that is done. The folder is made where it is not there; what it has under these names is
-replaced, and a `serve` that runs from there goes on with the program that it has. From then on nothing is built there,
-whatever happens to the sources. Where the program is not built yet, or a source is newer, ./gr_desk proves and builds
-it first.
-
-The units name the folder, so they must be copied anew where it is moved. They are shut off from the folders of
-users (ProtectHome=yes), so that they run nothing that lies there: error output says so where PREFIX does.
-
-The exit status is 0 where all of it is there, 2 where the words are wrong, and 3 where it failed; a line on error
-output says why.
-"""
+"""Install the proved program and the tools into a folder of their own"""
 import os
 import shutil
 import subprocess
-import sys
 import tempfile
 from contextlib import suppress
 from pathlib import Path
-from types import SimpleNamespace
 
 from grdesk.desk.program import BUILT
+from grdesk.error import Failed, Wrong
 from grdesk.inventory import TOP, files
 from grdesk.output import note, say
-from grdesk.stop import Failed, Wrong
+from grdesk.parser import Parser
 
 FOLDERS = "bin", "tools", "examples", "docs", "man/man1", "completion", "systemd"
 # Where the units run nothing, since they have ProtectHome=yes.
@@ -37,21 +18,16 @@ OF_USERS = "/home/", "/root/", "/run/user/"
 NOT_IN_A_UNIT = '"\\$\n'
 
 
-class Prefix:
-    """Reads PREFIX as it stands, also if it looks like an option: that is no name of a folder."""
-
-    @staticmethod
-    def read(words):
-        if words[:1] in (["-h"], ["--help"]):
-            say(__doc__.encode())
-            sys.exit(0)
-        if len(words) != 1:
-            raise Wrong("the words are PREFIX; gr-desk install --help says more")
-        return SimpleNamespace(prefix=words[0])
-
-
-def reader():
-    return Prefix
+def parser():
+    command = Parser(
+        "install",
+        __doc__,
+        ["PREFIX"],
+        examples=["gr-desk install /opt/gr-desk"],
+        statuses=[(0, "all of it is there"), (2, "wrong words"), (3, "failed; a line says why")],
+    )
+    command.add_argument("prefix", metavar="PREFIX", help="the folder; it is made, or what it has of the desk replaced")
+    return command
 
 
 def place_of(word):
@@ -133,12 +109,12 @@ def lay_units(prefix, work):
         lay(made, prefix / "systemd" / unit.name, 0o644)
 
 
-def run(words):
+def run(arguments):
     # Every account that may enter the folder can run what is installed.
     os.umask(0o022)
-    prefix = place_of(words.prefix)
+    prefix = place_of(arguments.prefix)
     build()
-    make_folders(prefix, words.prefix)
+    make_folders(prefix, arguments.prefix)
     lay(BUILT, prefix / "gr_desk", 0o755)
     for name in files():
         (prefix / name).parent.mkdir(parents=True, exist_ok=True)

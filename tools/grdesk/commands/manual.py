@@ -1,39 +1,56 @@
-"""Writes the man pages of the program and of each tool, and what completes their words in bash.
-
-    gr-desk manual FOLDER
-
-FOLDER gets man/man1/ with gr_desk.1 of the program and its subcommands, gr-desk.1 of the command, and gr-desk-TOOL.1 of
-each tool. Beside it stands completion/gr-desk, for `. completion/gr-desk` in a shell of bash. All of it is made of the
-help texts, so that there is one source. The pages have the version, and the date of the last commit where the sources
-have commits. FOLDER is made where it is not there; what it has under these names is replaced.
-
-The exit status is 0 where all was written, 2 where the words are wrong, and 3 where a help text could not be had; a
-line on error output says why.
-"""
+"""Write the man pages, and the completion of words in bash"""
+import os
+from importlib import import_module
 from pathlib import Path
 
+from grdesk.error import Failed
+from grdesk.inventory import commands, laid_down
+from grdesk.new_file import Folder, Readers
 from grdesk.package.completion import completion
-from grdesk.package.help_text import help_of_program, help_of_tools
+from grdesk.package.help_text import help_of_examples, help_of_program
 from grdesk.package.man_page import pages
 from grdesk.parser import Parser
 
 
+def parsers():
+    """The parsers of the tools that are installed, by the names of these."""
+    names = sorted({*commands()} & {*laid_down()})
+    return [import_module(f"grdesk.commands.{name}").parser() for name in names]
+
+
+def main_parser():
+    """The parser of gr-desk itself, which the tools are not above."""
+    return import_module("grdesk.cli").parser()
+
+
 def made():
     """What is written, by the paths in the folder."""
-    program, tools = help_of_program(), help_of_tools()
-    files = {f"man/man1/{name}": source for name, source in pages(program, tools).items()}
-    return files | {"completion/gr-desk": completion(program, tools).encode()}
+    program, examples, tools = help_of_program(), help_of_examples(), parsers()
+    sources = pages(program, examples, [main_parser(), *tools])
+    files = {f"man/man1/{name}": source for name, source in sources.items()}
+    return files | {"completion/gr-desk": completion(program[1:], examples, tools).encode()}
 
 
-def run(words):
-    for name, text in made().items():
-        path = Path(words.folder) / name
-        path.parent.mkdir(parents=True, exist_ok=True)
-        path.write_bytes(text)
+def run(arguments):
+    files = made()
+    try:
+        for name, text in files.items():
+            path = Path(arguments.folder) / name
+            path.parent.mkdir(parents=True, exist_ok=True)
+            with Folder(os.path.realpath(path.parent), Readers.ALL) as place:
+                place.put(path.name, text)
+    except OSError as error:
+        raise Failed(f"{error.filename or arguments.folder} cannot be written: {error.strerror}") from None
     return 0
 
 
-def reader():
-    parser = Parser(__doc__)
-    parser.add_argument("folder", metavar="FOLDER")
-    return parser
+def parser():
+    command = Parser(
+        "manual",
+        __doc__,
+        ["FOLDER"],
+        examples=["gr-desk manual /tmp/pages && man -l /tmp/pages/man/man1/gr-desk-act.1"],
+        statuses=[(0, "written"), (2, "wrong words"), (3, "failed; a line says why")],
+    )
+    command.add_argument("folder", metavar="FOLDER", help="gets man/man1/ and completion/; it is made if need be")
+    return command

@@ -1,24 +1,13 @@
-"""Makes a package for apt of the built, proved program and the tools.
-
-    gr-desk package FOLDER
-
-FOLDER gets gr-desk_VERSION_ARCHITECTURE.deb, and beside it a file with the ending .sha256. That has the SHA-256 as
-`sha256sum -c` reads it, and says by which toolchain the program was proved, from which commit it is, and the SHA-256 of
-the program itself. FOLDER is made where it is not there. What has these names is replaced.
-
-The package is made of what stands here, and nothing is built: the program has to be there, and to be newer than its
-sources. One commit and one program give the same bytes, whenever, wherever and by whom it is made: all dates are that
-of the commit. Where files differ from the commit, a warning says so, and the package has them as they are here.
-
-The exit status is 0 where the package stands, 2 where the words are wrong, and 3 where it failed, as where the program
-is not built; a line on error output says why.
-"""
+"""Make a Debian package of the built, proved program and the tools"""
 import hashlib
 import os
 import re
+import subprocess
+import tempfile
 from pathlib import Path
 
 from grdesk.desk.program import newer_source, program
+from grdesk.error import Failed
 from grdesk.interruption import undisturbed
 from grdesk.inventory import TOP
 from grdesk.new_file import Folder, Readers
@@ -30,7 +19,6 @@ from grdesk.package.control import control_files, papers
 from grdesk.package.elf import Program
 from grdesk.package.version import version
 from grdesk.parser import Parser
-from grdesk.stop import Failed
 
 TOOLCHAIN = re.compile("`(rattle-kit-[a-z0-9]+ logic [0-9a-f]+)`")
 
@@ -60,12 +48,21 @@ def commit():
     return found
 
 
+def made_pages():
+    """The man pages and the completion, by the paths that gr-desk manual gives them."""
+    with tempfile.TemporaryDirectory() as work:
+        if subprocess.run([TOP / "tools" / "gr-desk", "manual", work], check=False).returncode != 0:
+            raise Failed("the man pages could not be made")
+        found = sorted(path for path in Path(work).rglob("*") if path.is_file())
+        return {path.relative_to(work).as_posix(): path.read_bytes() for path in found}
+
+
 def made(data, found, number):
     """The bytes of the package."""
     of_desk = Program(data)
-    entries = [*contents(), *papers(number, found.author, found.moment, found.date[:4])]
-    told = control_files(entries, of_desk, number, found.author)
-    return package(tarball(told, found.moment), tarball(entries, found.moment), found.moment)
+    entries = [*contents(made_pages()), *papers(number, found.author, found.moment, found.date[:4])]
+    control = control_files(entries, of_desk, number, found.author)
+    return package(tarball(control, found.moment), tarball(entries, found.moment), found.moment)
 
 
 def beside(name, deb, data, found):
@@ -79,8 +76,8 @@ def beside(name, deb, data, found):
 """
 
 
-def run(words):
-    folder, data, found, number = Path(words.folder), built(), commit(), version()
+def run(arguments):
+    folder, data, found, number = Path(arguments.folder), built(), commit(), version()
     deb = made(data, found, number)
     name = f"{NAME}_{number}_{Program(data).architecture}.deb"
     text = beside(name, deb, data, found)
@@ -92,7 +89,13 @@ def run(words):
     return 0
 
 
-def reader():
-    parser = Parser(__doc__)
-    parser.add_argument("folder", metavar="FOLDER")
-    return parser
+def parser():
+    command = Parser(
+        "package",
+        __doc__,
+        ["FOLDER"],
+        examples=["gr-desk package /tmp/packages"],
+        statuses=[(0, "made"), (2, "wrong words"), (3, "failed; a line says why")],
+    )
+    command.add_argument("folder", metavar="FOLDER", help="gets the package, and a file with its SHA-256")
+    return command

@@ -1,78 +1,54 @@
-"""Writes a page of a resolution, to be looked at in a browser, or a folder with the pages of all.
-
-    gr-desk page [--journal FILE] [--at DATE] DESK R > page.html
-    gr-desk page [--journal FILE] [--at DATE] DESK --all FOLDER [--voters]
-
-Each also takes --port P or --socket PATH in the place of DESK, or none of them where the environment variable
-GR_DESK_PORT or GR_DESK_SOCKET has it. DESK is the file of a desk, which is read from a copy, also while `serve` holds
-it. By a port or a socket each sheet is one of the connections that `serve` counts.
-
-The page is one file of HTML with no script, which loads nothing. It has the stage of resolution R, its times, and each
-choice with its text, who proposes and sponsors it, and what it needs. From a file it also has what moved the end of
-the discussion, and with --journal what was amended; no environment variable stands for that. Before the close it has
-nothing of the ballots, not even how many there are. Of a closed vote it has the outcome, the tests, the preferences
-between each two options, the defeats as a graph with those that each round dropped, each ballot with its receipt, and
-the SHA-256 of tally and result. No voter is named there (Constitution, 4.2.3).
-
-A summary stands by itself: it is escaped, and its direction touches nothing beside it. Where it has a character that
-sets a direction or shows nothing, its number stands there, as U+202E in a frame, or <U+202E> in the drawing. A desk
-keeps no title of a resolution, so the summary of its first choice stands for one.
-
-The page is that of the machine's clock, or of DATE: 2026-01-14T21:07:00Z or the like, or seconds since 1970. Two runs
-at one --at give the same bytes.
-
-With --all FOLDER gets index.html, and of each resolution the page and the status; once it is called, the form for
-ballots; and once the vote is closed, tally and result. It can be put on a web server as it is: every file has the date
-of the page, and everybody may read it. One that an earlier run wrote is replaced, or taken away if this run writes
-none, as after a close that was taken back. FOLDER is made if it is not there. It may hold nothing else, as all in it
-becomes public, and not lie in an outbox of gr-desk votes. If other accounts can write into it, or it is not yours,
-nothing is written: `chmod go-w FOLDER`, or name a folder of your own.
-
-With --voters, and from a file, FOLDER also gets the list of voters of each closed vote, as gr-desk voters prints it. A
-list that would show how somebody voted is not written, because one developer voted or all ballots are alike. All else
-is written then, and error output says why. Without --voters a list of an earlier run is taken away.
-
-While it runs, private copies of the desk lie in $XDG_RUNTIME_DIR, or else in gr-desk-UID of $TMPDIR or /tmp.
-
-The exit status is 0 if all was written; 1 if the desk has no such resolution, a list of voters was left out, or
-something stands in the way; 2 if the words are wrong; and 3 if the sheets could not be read or a file not be written.
-A line on error output says why.
-"""
+"""Write a page of a resolution for a browser, or a folder with the pages of all"""
 import time
 
-from grdesk.acts.resolution import take_desk
+from grdesk.acts.resolution import DESK_AND_R, take_desk
 from grdesk.dates import moment_number
 from grdesk.desk.address import add_address
 from grdesk.desk.copy import desk_at
 from grdesk.desk.sheet import sheets_of
+from grdesk.error import Refused, Wrong
 from grdesk.journal.journal import journal_at
 from grdesk.output import say
-from grdesk.parser import Parser
-from grdesk.stop import Refused, Wrong
+from grdesk.parser import ADDRESS, COPIES, Parser
 from grdesk.web.page import Pages
 from grdesk.web.site import publish
 
 
-def reader():
-    parser = Parser(__doc__)
-    parser.add_argument("rest", metavar="WORD", nargs="*")
-    add_address(parser)
-    parser.add_argument("--journal", metavar="FILE")
-    parser.add_argument("--at", type=moment_number, metavar="DATE")
-    parser.add_argument("--all", metavar="FOLDER")
-    parser.add_flag("--voters")
-    return parser
+def parser():
+    command = Parser(
+        "page",
+        __doc__,
+        [
+            "[--journal FILE] [--at DATE] DESK R > page.html",
+            "[--journal FILE] [--at DATE] DESK --all FOLDER [--voters]",
+        ],
+        examples=["gr-desk page desk.db 1 > page.html", "gr-desk page desk.db --all /var/www/votes"],
+        statuses=[
+            (0, "all was written"),
+            (1, "no such resolution, no list of voters, or something in the way"),
+            (2, "wrong words"),
+            (3, "a sheet was not read, or a file not written; a line says why"),
+        ],
+        environment=ADDRESS + COPIES,
+    )
+    command.add_words(*DESK_AND_R)
+    add_address(command)
+    command.add_argument("--journal", metavar="FILE", help="also show what was amended, from this journal of DESK")
+    command.add_argument("--at", type=moment_number, metavar="DATE", help="the page as of DATE (default: now)")
+    command.add_argument("--all", metavar="FOLDER", help="write all resolutions into FOLDER, for a web server")
+    command.add_flag("--voters", help="with --all: also publish who voted, once a vote is closed")
+    return command
 
 
-def journal_entries(words):
+def journal_entries(arguments):
     """The acts of the journal that the words name. That of GR_DESK_JOURNAL is not looked at: a page is for others."""
-    if words.journal is None:
+    if arguments.journal is None:
         return None
-    with journal_at(words.journal, is_read=True) as journal:
+    with journal_at(arguments.journal, is_read=True) as journal:
         entries = journal.entries
     # By a port it is not known which file the desk has.
-    if words.desk is not None and entries.desk not in (None, desk_at(words.desk)):
-        raise Refused(f"{words.journal} is the journal of the desk {entries.desk}, and not of {words.desk}")
+    if arguments.desk is not None and entries.desk not in (None, desk_at(arguments.desk)):
+        raise Refused(f"{arguments.journal} is the journal of the desk {entries.desk}, and not of {arguments.desk}")
     return entries
 
 
@@ -81,26 +57,26 @@ def check_rest(rest):
         raise Wrong(f"there is a word too many: {rest[0]!r}; gr-desk page --help says more")
 
 
-def check_voters(words):
+def check_voters(arguments):
     """Refuses to list voters on a page, and by a port, where it is not known who voted."""
-    if words.voters and words.all is None:
+    if arguments.voters and arguments.all is None:
         raise Wrong("--voters needs --all FOLDER; gr-desk voters prints the list of one resolution")
-    if words.voters and words.desk is None:
+    if arguments.voters and arguments.desk is None:
         raise Wrong("--voters needs DESK: by a port it is not known who voted")
 
 
-def run(words):
-    at = int(time.time()) if words.at is None else words.at
-    if words.all is None:
-        check_rest(take_desk(words, words.rest))
+def run(arguments):
+    at = int(time.time()) if arguments.at is None else arguments.at
+    if arguments.all is None:
+        check_rest(take_desk(arguments, arguments.rest))
     else:
-        words.desk = words.rest[0] if words.rest else None
-        check_rest(words.rest[1:])
-    check_voters(words)
-    entries = journal_entries(words)
-    with sheets_of(words) as desk:
+        arguments.desk = arguments.rest[0] if arguments.rest else None
+        check_rest(arguments.rest[1:])
+    check_voters(arguments)
+    entries = journal_entries(arguments)
+    with sheets_of(arguments) as desk:
         pages = Pages(desk, at, entries)
-        if words.all is None:
-            say(pages.page(words.resolution).encode())
+        if arguments.all is None:
+            say(pages.page(arguments.resolution).encode())
             return 0
-        return 0 if publish(pages, words.all, words.voters) else 1
+        return 0 if publish(pages, arguments.all, arguments.voters) else 1

@@ -1,33 +1,13 @@
-"""Says who is current on the roll of a desk and does not stand in a roll file, and writes the rows that retire them.
-
-    gr-desk roll_diff DESK ROLL.csv > retired.csv
-    gr-desk roll_diff [--port P | --socket PATH] ROLL.csv > retired.csv
-
-An import removes nobody: who left the project stays current until a row says `retired`. ROLL.csv is the roll as it is
-to be, a roll file as for an import. Error output has a line for each developer who is current on the roll and has no
-row there. Standard output has a roll file with their rows, to be looked at and then imported. It has its first line
-also where there is nobody to retire. Who is retired already gets no row. A later vote counts those who are current
-then, and a quorum is that of the call.
-
-DESK is the file of a desk, which is read from a copy, also while `serve` holds it. Without it the roll is asked of the
-`serve` on port P or behind the socket PATH, or of that of the environment variable GR_DESK_PORT or GR_DESK_SOCKET. That
-takes one connection of those that it counts.
-
-While it runs, private copies of the desk lie in $XDG_RUNTIME_DIR, or else in gr-desk-UID of $TMPDIR or /tmp.
-
-The exit status is 0 where the rows were written, 2 where the words or the roll file are wrong, and 3 where the roll or
-the file could not be read; a line on error output says why. On a terminal what shows nothing itself stands as <U+202E>;
-redirected, the rows are exact.
-"""
+"""Write the rows that retire whoever is not in a roll file any more"""
 import csv
 import io
 import sys
 
 from grdesk.desk.request import MOST_BYTES
 from grdesk.desk.sheet import add_desk, roll_of, sheets_of
+from grdesk.error import Failed, Wrong
 from grdesk.output import note, say, shown
-from grdesk.parser import Parser
-from grdesk.stop import Failed, Wrong
+from grdesk.parser import ADDRESS, COPIES, Parser
 
 HEADER = ["login", "name", "status"]
 
@@ -43,7 +23,7 @@ def text_of(name):
     try:
         return data.decode("utf-8-sig")
     except UnicodeDecodeError:
-        raise Wrong(f"{name} is no UTF-8") from None
+        raise Wrong(f"{name} is not UTF-8") from None
 
 
 def logins_in(name):
@@ -71,16 +51,27 @@ def rows_of(developers):
     return text.getvalue()
 
 
-def reader():
-    parser = Parser(__doc__)
-    add_desk(parser)
-    parser.add_argument("roll", metavar="ROLL.csv")
-    return parser
+def parser():
+    command = Parser(
+        "roll_diff",
+        __doc__,
+        ["DESK ROLL.csv > retired.csv", "[--port P | --socket PATH] ROLL.csv > retired.csv"],
+        examples=["gr-desk roll_diff desk.db roll.csv > retired.csv"],
+        statuses=[
+            (0, "written, even if nobody is missing"),
+            (2, "wrong words, or a wrong roll file"),
+            (3, "the roll or the file could not be read; a line says why"),
+        ],
+        environment=ADDRESS + COPIES,
+    )
+    add_desk(command)
+    command.add_argument("roll", metavar="ROLL.csv", help="the roll as it should be, as for an import")
+    return command
 
 
-def run(words):
-    name = words.roll
-    with sheets_of(words) as desk:
+def run(arguments):
+    name = arguments.roll
+    with sheets_of(arguments) as desk:
         there = logins_in(name)
         roll = roll_of(desk.sheet("roll"))
     current = [developer for developer in roll if developer.is_current]

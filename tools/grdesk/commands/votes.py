@@ -1,132 +1,94 @@
-"""Enters the ballots that came as filled forms, and writes a mail to each voter.
-
-    gr-desk votes [--received-by HOST] [--outbox OUTBOX] [--domain DOMAIN] [--journal FILE] DESK R FOLDER
-
-Instead of DESK it takes --port P or --socket PATH, or none of them if GR_DESK_PORT or GR_DESK_SOCKET is set. What is
-said of a port also applies to sockets. If the first word is a number, it is R: write a desk with such a name as ./1.
-
-FOLDER has a file, an mbox or a Maildir for each voter: LOGIN.txt, LOGIN.eml, LOGIN.mbox or the folder LOGIN. Check
-first that the mail is that developer's, for example by its signature: no signature is checked here. gr-desk ballot says
-how a form is read. Files not named after a developer on the roll are left out, and so are trashed mails, drafts, links
-and FIFOs. They are at the top of the table, since a login may be misspelt.
-
-A mail arrived when the top field Received says so, if HOST, the Secretary's own server, wrote it; otherwise at the time
-of its file. Each mail whose Received is not taken is named. If HOST wrote that of none, HOST is taken for misspelt, and
-nothing is sent. The Date of a mail is the voter's, and is only printed. If a mail came before, the journal has when it
-arrived, and that counts, whatever its file says now. A mail is known by its Message-ID, or by its SHA-256 if it has
-none. A later form that says the same as the voter's last ballot is answered, and is no new ballot.
-
-First a table shows by names what will be sent and what will not, and why. Of ballots that were answered before it has
-only the number, and what was refused. At a terminal y confirms it, and all else ends the run with nothing sent and no
-mail written. If the desk gets an act meanwhile, nothing is sent. Then the desk is copied as by gr-desk backup, beside
-DESK, to DESK-before-votes-TIME. The last three such copies are kept; gr-desk backup counts and removes none of them. Of
-several ballots of one voter the last that arrived is sent, even if an earlier one was entered before. After the close
-nothing is done, so run it to its end before.
-
-These are left to you, with the line that enters each once you have asked the voter: two that arrived at one moment; one
-that has the token, or without a token the ranks, of an earlier ballot of this voter but not of the last, since somebody
-may have sent that again; two that differ, if the later one has only the time of a file or mbox, and the other one that
-of HOST; a mail with a Received that is not taken, if its file is late; two texts of one Message-ID; one mail, or one
-text with its token, under two logins; and with --domain a mail whose From is LOGIN@DOMAIN of another developer. gr-desk
-ballot read prints the ranks of a form.
-
-All ballots in time are entered at one moment: when the last of them arrived, or the desk's clock if that is later.
-Every account of the machine can read that moment on a command line, and so it does not tell when each ballot came; the
-journal does. No ballot is put past the end of a vote before which it came. One that arrived in time, and that could
-only be entered past the end, is not sent. By a port a vote has the moment at which it comes there, and no copy is made.
-
-A refusal is answered to the voter only if it is final: BadToken, BadRanks, WrongStage, and Ended for a mail that came
-at the end or later. After any other, such as ClockBack, the run stops, says what to do, and loses nothing: the next run
-sends that ballot again. A ballot of a retired developer waits until the roll says current.
-
-Each vote is kept in the journal, that of --journal or GR_DESK_JOURNAL, which has to be there: by it a run that was
-killed goes on. What was accepted is never sent again. With DESK a vote of which no answer is kept is looked for in the
-desk, by its ranks and its receipt. By a port such a vote is sent again with the same token, and `Received` of the
-result may be one higher for it. Of what came to the desk by another way the journal knows nothing: a warning says so
-where the desk has a ballot that would be replaced. The journal knows who voted how: see gr-desk act --help.
-
-OUTBOX is FOLDER.outbox where nothing else is said: a folder that is its owner's alone, as it has tokens beside logins.
-It gets a mail for each voter, to LOGIN@DOMAIN where DOMAIN is said: what was entered, place by place, with the token,
-the receipt and how to check them, or why it was refused. Send each to its voter alone, and take it away. What was sent
-is not written again.
-
-While it runs, private copies of the desk lie in $XDG_RUNTIME_DIR, or else in gr-desk-UID of $TMPDIR or /tmp.
-
-At the end a table shows which voters have no answer yet, also those of whom a vote of the journal is gone with a desk
-that was given up. The exit status is 0 if each ballot was entered, now or before, or replaced by a later one; 1 if one
-was not, if FOLDER has what is no voter's, or if something is in the way; 2 if the words are wrong; and 3 if it failed.
-A line on error output says why.
-"""
+"""Enter the ballots that came as filled forms, and write a mail to each voter"""
 import os
 import re
+import shlex
 import time
 from collections import Counter
+from typing import NamedTuple
 
-from grdesk.acts.resolution import status_in, take_desk
-from grdesk.ballots.answer import answer_to
+from grdesk.acts.resolution import DESK_AND_R, status_in, take_desk
+from grdesk.ballots.answer import ANSWERED, Answers
 from grdesk.ballots.arrival import By, arrivals_in
-from grdesk.ballots.batch import Batch, Standing, ends_in, votes_in
-from grdesk.ballots.form import form_of
+from grdesk.ballots.batch import Batch, Standing, open_votes_in, votes_in
+from grdesk.ballots.form import form_of, forms_of_others
 from grdesk.ballots.outbox import Outbox
 from grdesk.ballots.remedy import Remedy
 from grdesk.ballots.report import Table, end_of_strays, summary
 from grdesk.ballots.submission import Submission
-from grdesk.dates import dated
+from grdesk.ballots.writable import warn_of_writable
+from grdesk.dates import date_of, dated
 from grdesk.desk.address import add_address, address_of
-from grdesk.desk.copy import copy_to, new_place
+from grdesk.desk.copy import copied_again, copy_to, new_place
+from grdesk.desk.digest import read_digests
 from grdesk.desk.file import DeskFile
 from grdesk.desk.retention import KEPT_BEFORE_VOTES, name_before_votes, surplus_before_votes
+from grdesk.desk.row import Header, header_in
 from grdesk.desk.sheet import roll_of, sheets_of
-from grdesk.journal.delivery import check_has_all
+from grdesk.error import Failed, Refused, Wrong
+from grdesk.journal.delivery import check_has_all, unsent
 from grdesk.journal.entry import Fate
 from grdesk.journal.journal import NO_JOURNAL, journal_at, journal_name
-from grdesk.journal.open_act import settle
+from grdesk.journal.open_act import settle_open_acts
 from grdesk.output import confirm, counted, is_at_terminal, note, say, shown
-from grdesk.parser import Parser
-from grdesk.stop import Failed, Refused, Wrong
+from grdesk.parser import ADDRESS, COPIES, JOURNAL, Parser
 
 # Of the hosts that mails name no more are reported, and of each no more characters.
 MOST_HOSTS, MOST_OF_A_HOST = 5, 100
 
 
+class Changed(Refused):
+    """The desk has got acts since the table was made."""
+
+
+class Seen(NamedTuple):
+    """A desk as it was when it was looked at: its header, and the SHA-256 of its file and its log."""
+
+    header: Header
+    digests: list
+
+
 class Sheets:
     """What is read of a desk before anything is sent."""
 
-    def __init__(self, words):
-        with sheets_of(words) as desk:
-            status = status_in(desk, words.resolution)
-            self.form = form_of(status)
-            if status.stage != "Voting":
-                raise Refused(f"nothing was sent: resolution {status.number} is closed")
-            self.roll = {developer.login: developer for developer in roll_of(desk.sheet("roll"))}
-            rows = desk.rows()
-        self.held = rows and ballots_in(rows, words.resolution)
-        self.ends = ends_in(rows) if rows else [self.form.end]
+    def __init__(self, desk, number):
+        status = status_in(desk, number)
+        self.form = form_of(status)
+        if status.stage != "Voting":
+            raise Refused(f"nothing was sent: resolution {status.number} is closed")
+        self.roll = {developer.login: developer for developer in roll_of(desk.sheet("roll"))}
+        rows = desk.rows()
+        self.others = forms_of_others(desk, rows, number)
+        self.stored = rows and stored_ballots(rows, number)
+        self.open_votes = open_votes_in(rows) if rows else {self.form.number: self.form.end}
+        self.ends = sorted(self.open_votes.values())
 
 
-def ballots_in(rows, number):
+def stored_ballots(rows, number):
     """The ranks and the receipt of each ballot on a resolution, by login."""
     ballots = rows["ballot2"].items()
     return {login.decode(): (row["ranks"].decode(), row["receipt"].decode())
             for (of, login), row in ballots if of == number}
 
 
-def check_desk(desk, header, journal, now):
-    """Looks whether the desk and the journal are those of a vote that goes on."""
+def look_at(desk, sheets, journal, now):
+    """Looks by a copy whether the desk and the journal are those of a vote that goes on. Gives what was seen."""
+    seen = Seen(sheets.header(), sheets.digests())
     journal.check_desk(desk.path)
-    if header.clock > now:
-        told = f"nothing was sent: the desk's clock is {dated(header.clock)}, later than the machine's"
-        raise Refused(f"{told}; gr-desk clock {desk.name} says more")
-    check_has_all(journal, desk, header)
-    settle(journal, header, desk)
+    if seen.header.clock > now:
+        message = f"nothing was sent: the desk's clock is {dated(seen.header.clock)}, later than the machine's"
+        raise Refused(f"{message}; gr-desk clock {desk.name} says more")
+    check_has_all(journal, desk, seen.header)
+    settle_open_acts(journal, seen.header, sheets)
+    return seen
 
 
-def check_same(desk, header):
-    """Refuses a desk that has changed since the table was made: the question may have waited long."""
-    desk.check_free()
-    if desk.header() != header:
-        told = f"nothing was sent: {desk.name} has got acts since the table was made"
-        raise Refused(f"{told}; nothing is lost: run this again")
+def is_same(copy, name, seen):
+    """Refuses a desk that has changed since the table was made, by a new copy of it: the question may have waited long.
+    What was opened meanwhile may have other bytes, and the same acts."""
+    if read_digests(copy) != seen.digests and header_in(copied_again(copy), name) != seen.header:
+        message = f"nothing was sent: {name} got acts after the table was made"
+        raise Changed(f"{message}. Nothing is lost: run this again")
+    return True
 
 
 def check_has_ballots(desk, journal, number, held):
@@ -136,16 +98,16 @@ def check_has_ballots(desk, journal, number, held):
     lost = [login for login, of_voter in votes
             if login not in held and any(each.fate is Fate.ACCEPTED for each in of_voter)]
     if lost:
-        told = f"nothing was sent: {desk.name} has no ballot of {counted(len(lost), 'voter')}"
-        told = f"{told}, and {journal.name} has one as accepted"
-        raise Refused(f"{told}: gr-desk journal check says in what the two differ")
+        message = f"nothing was sent: {desk.name} lacks the ballot of {counted(len(lost), 'voter')}"
+        message = f"{message} that {journal.name} has as accepted"
+        raise Refused(f"{message}: gr-desk journal check shows how the two differ")
 
 
 def check_none_held(journal):
     held = [entry.number for entry in journal.entries.all.values() if entry.fate is Fate.HELD]
     if held:
-        told = f"nothing was sent: acts are held, {', '.join(held)}, and would be lost after later votes"
-        raise Refused(f"{told}: say gr-desk journal due, or gr-desk journal drop")
+        message = f"nothing was sent: acts are on hold, {', '.join(held)}, and would be lost after later votes"
+        raise Refused(f"{message}: gr-desk journal due enters them, and gr-desk journal drop drops them")
 
 
 def check_hosts(arrivals, host):
@@ -156,10 +118,10 @@ def check_hosts(arrivals, host):
         return
     hosts = Counter(shown(mail.host()[:MOST_OF_A_HOST]) or "a host that cannot be read" for mail in mails)
     more = f" and {counted(len(hosts) - MOST_HOSTS, 'other')}" if len(hosts) > MOST_HOSTS else ""
-    told = f"nothing was sent: no mail was received by {host}, but {counted(len(mails), 'mail')} by"
-    told = f"{told} {', '.join(name for name, _ in hosts.most_common(MOST_HOSTS))}{more}"
+    message = f"nothing was sent: no mail was received by {host}, but {counted(len(mails), 'mail')} by"
+    message = f"{message} {', '.join(name for name, _ in hosts.most_common(MOST_HOSTS))}{more}"
     named = ", ".join(shown(mail.name) for mail in mails[:MOST_HOSTS])
-    raise Refused(f"{told} ({named}): say which of these hosts is yours, or move these mails out of FOLDER")
+    raise Refused(f"{message} ({named}): name your own server by --received-by, or move these mails out of FOLDER")
 
 
 def place_of_copy(desk):
@@ -172,25 +134,26 @@ def place_of_copy(desk):
             time.sleep(0.1)
 
 
-def copy_before(desk):
+def copy_before(desk, seen):
+    """Keeps a copy of the desk, which has to be as it was seen."""
     place = place_of_copy(desk)
-    copy_to(desk.path, place, is_backup=True)
+    copy_to(desk.path, place, is_backup=True, is_wanted=lambda copy: is_same(copy, desk.name, seen))
     note(f"copied {desk.name} to {place}")
     for copy in surplus_before_votes(place):
         copy.remove()
-        note(f"removed {copy.path}, as {KEPT_BEFORE_VOTES} newer copies of this kind are there")
+        note(f"removed {copy.path}: {KEPT_BEFORE_VOTES} newer copies of this kind are kept")
 
 
 def warn_of_times(batch, host):
     """Names each mail that is new and has a time of a server which is not taken."""
-    new = [each.arrival for each in batch.ballots if not each.is_told]
+    new = [each.arrival for each in batch.ballots if not each.is_reported]
     passed = [each.mail for each in new if each.by is By.FILE and each.mail.has_received]
     if passed:
-        told = f"for {counted(len(passed), 'mail')} the time of the file is taken, and not the field Received"
+        message = f"the time of the file counts for {counted(len(passed), 'mail')}, and not the field Received"
         why = f"none of {host} with a date is at the top"
         if host is None:
-            why = "no --received-by HOST says which server's field that is"
-        note(f"warning: {told}: {why}")
+            why = "no --received-by HOST names your own server"
+        note(f"warning: {message}: {why}")
         for mail in passed:
             note(f"warning: it is the time of the file for {shown(mail.name)}")
 
@@ -198,48 +161,71 @@ def warn_of_times(batch, host):
 def warn_of_unknown(batch, journal):
     """Says that the desk has ballots by another way, as with another journal, which are replaced."""
     if unknown := batch.unknown():
-        told = f"the desk has a ballot of {counted(len(unknown), 'voter')} that {journal.name} does not have"
-        note(f"warning: {told}, and what is sent replaces it: look whether that is the journal of this vote")
+        message = f"the desk has a ballot of {counted(len(unknown), 'voter')} that {journal.name} lacks"
+        note(f"warning: {message}, and this run replaces it: check that this is the journal of the vote")
 
 
-def post(words, folder, journal):
+def tell_of_other_votes(elsewhere):
+    """Says how many ballots are on other votes."""
+    for number, count in sorted(elsewhere.items()):
+        note(f"left to gr-desk votes for resolution {number}: {counted(count, 'ballot')}")
+
+
+def warn_of_open_votes(batch, open_votes, desk, journal):
+    """Names each vote that must be closed before all ballots on this one are sent, and says how."""
+    waiting = [each.moment for each in batch.ballots if each.standing is Standing.BEHIND]
+    ends = batch.ends_before(max(waiting)) if waiting else []
+    for number, end in sorted(open_votes.items()):
+        if end in ends:
+            line = ["gr-desk", "act", f"--desk={desk}", f"--at={date_of(end)}", f"--journal={journal.name}"]
+            message = f"warning: the vote on resolution {number} ended at {date_of(end)}, and is not closed"
+            message = f"{message}; enter its ballots by gr-desk votes, close it, and run this again"
+            note(f"{message}: {shlex.join([*line, 'close', str(number)])}")
+
+
+def post(arguments, folder, journal):
     """Sends what must be sent, and gives the exit status."""
-    desk = DeskFile(words.desk) if words.desk else None
-    now, header = int(time.time()), None
+    desk = DeskFile(arguments.desk) if arguments.desk else None
+    now = int(time.time())
     check_none_held(journal)
     if desk:
         desk.check_free()
-        header = desk.header()
-        check_desk(desk, header, journal, now)
-    read = Sheets(words)
+    with sheets_of(arguments) as sheets:
+        seen = look_at(desk, sheets, journal, now) if desk else None
+        read = Sheets(sheets, arguments.resolution)
     if desk:
-        check_has_ballots(desk, journal, words.resolution, read.held)
-    arrivals, strays = arrivals_in(folder, read.form, words.received_by, read.roll)
-    check_hosts(arrivals, words.received_by)
-    outbox = Outbox(words.outbox or f"{os.path.abspath(folder)}.outbox")
-    clock = header.clock if desk else now
-    batch = Batch(words.resolution, read.form.end, read.ends, now, clock, read.held, journal.entries, outbox.known,
-                  read.roll, words.domain)
+        check_has_ballots(desk, journal, arguments.resolution, read.stored)
+    arrivals, strays, elsewhere = arrivals_in(folder, read.form, arguments.received_by, read.roll, read.others)
+    check_hosts(arrivals, arguments.received_by)
+    outbox = Outbox(arguments.outbox or f"{os.path.abspath(folder)}.outbox")
+    clock = seen.header.clock if desk else now
+    batch = Batch(arguments.resolution, read.form.end, read.ends, now, clock, read.stored, journal.entries,
+                  outbox.digests, read.roll, arguments.domain)
     batch.take(arrivals)
+    warn_of_writable(folder)
     warn_of_unknown(batch, journal)
-    mark_told(batch, read.form, outbox, words.domain)
-    warn_of_times(batch, words.received_by)
-    remedy = Remedy(words.resolution, words.desk, words.address, journal.name, journal.entries, batch.clock_behind(),
-                    read.form.end)
-    table = Table(batch, read.form, read.roll, (journal.name, outbox.folder), remedy)
+    tell_of_other_votes(elsewhere)
+    warn_of_open_votes(batch, read.open_votes, arguments.desk, journal)
+    answers = Answers(batch, read.form, arguments.domain)
+    mark_reported(batch, answers, outbox)
+    warn_of_times(batch, arguments.received_by)
+    remedy = Remedy(arguments.resolution, arguments.desk, arguments.address, journal.name, journal.entries,
+                    batch.clock_behind(), read.form.end)
+    table = Table(batch, read.form, read.roll, (journal.name, outbox.folder), remedy,
+                  arguments.received_by)
     print_text(table.text(strays))
     sending, known = batch.to_send(), len(journal.entries.all)
     if sending:
         ask(sending, strays)
         if desk:
-            check_same(desk, header)
-    posting = Submission(batch, journal, desk, words.address)
+            desk.check_free()
+    posting = Submission(batch, journal, desk, arguments.address)
     # A signal ends it at once: the next run writes the mails.
-    errors = errors_of(send, posting, sending, header)
-    unwritten = errors_of(write_mails, batch, read.form, outbox, words.domain)
+    errors = errors_of(copy_and_send, posting, sending, seen)
+    unwritten = errors_of(write_mails, batch, answers, outbox)
     numbers = list(journal.entries.all)[known:]
-    answers = table.unanswered(is_written=not unwritten)
-    print_text(f"{summary(sending, numbers, journal.name)}{answers}{end_of_strays(strays)}")
+    unanswered = table.unanswered(is_written=not unwritten)
+    print_text(f"{summary(sending, numbers, journal.name)}{unanswered}{end_of_strays(strays)}")
     raise_worst([*errors, *unwritten])
     return 0 if batch.is_done() and not strays else 1
 
@@ -251,19 +237,25 @@ def ask(sending, strays):
         confirm(f"Send {counted(len(sending), 'vote')}{left}?", "run")
 
 
-def send(posting, sending, header):
-    """Sends ballots, if there are any; to the file of a desk with this header once it was copied."""
+def copy_and_send(posting, sending, seen):
+    """Sends ballots, if there are any; to the file of a desk once it was copied as it was seen. What they replace is in
+    the journal before."""
+    if sending and posting.desk:
+        with unsent():
+            copy_before(posting.desk, seen)
+    posting.keep_replaced()
     if sending:
-        if posting.desk:
-            copy_before(posting.desk)
         posting.journal.is_quiet = True
-        posting.send(sending, header and header.accepted)
+        posting.send(sending, seen and seen.header.accepted)
 
 
 def errors_of(step, *words):
-    """The error of a step, in a list, or none: the next step is taken even if this one failed."""
+    """The error of a step, in a list, or none: the next step is taken even if this one failed. If the desk has changed,
+    none is."""
     try:
         step(*words)
+    except Changed:
+        raise
     except Exception as error:
         return [error]
     return []
@@ -283,57 +275,62 @@ def print_text(text):
     say(text.encode(errors="backslashreplace"))
 
 
-def answers_of(batch, form, domain):
-    """The answer to each voter whose ballots were answered."""
-    for login, ballots in batch.of_voters().items():
-        if answer := answer_to(ballots, form, domain):
-            yield login, answer
-
-
-def mark_told(batch, form, outbox, domain):
+def mark_reported(batch, answers, outbox):
     """Marks the ballots that were answered or reported before."""
-    answered = {login for login, answer in answers_of(batch, form, domain) if outbox.has(answer.digest)}
+    answered = {login for login, answer in answers.all() if outbox.has(answer.digest)}
     for each in batch.ballots:
-        if each.case in (Standing.COUNTED, Standing.REFUSED):
-            each.is_told = each.login in answered
-        elif each.case is Standing.REPLACED:
-            each.is_told = outbox.has(each.digest())
+        if each.standing in ANSWERED:
+            each.is_reported = each.login in answered
+        elif each.standing is Standing.REPLACED:
+            each.is_reported = outbox.has(each.digest())
 
 
-def write_mails(batch, form, outbox, domain):
+def write_mails(batch, answers, outbox):
     """Writes a mail to each voter whose ballots were answered."""
-    written = sum(outbox.put(login, answer) for login, answer in answers_of(batch, form, domain))
-    outbox.keep([each.digest() for each in batch.ballots if each.case is Standing.REPLACED])
+    written = sum(outbox.put(login, answer) for login, answer in answers.all())
+    outbox.keep([each.digest() for each in batch.ballots if each.standing is Standing.REPLACED])
     outbox.end()
     note(f"{counted(written, 'mail')} written to {outbox.folder}")
 
 
 def domain_name(text):
     if not re.fullmatch("[A-Za-z0-9]([A-Za-z0-9.-]*[A-Za-z0-9])?", text, re.ASCII):
-        raise Wrong(f"a DOMAIN is as example.org, and not {text!r}")
+        raise Wrong(f"a DOMAIN is a name like example.org, and not {text!r}")
     return text
 
 
-def reader():
-    parser = Parser(__doc__)
-    parser.add_argument("rest", metavar="WORD", nargs="*")
-    add_address(parser)
-    parser.add_argument("--journal", metavar="FILE")
-    parser.add_argument("--outbox")
-    parser.add_argument("--received-by", metavar="HOST")
-    parser.add_argument("--domain", type=domain_name)
-    return parser
+def parser():
+    command = Parser(
+        "votes",
+        __doc__,
+        ["[OPTION ..] DESK R FOLDER"],
+        examples=["gr-desk votes --received-by mx.example.org desk.db 1 ballots"],
+        statuses=[
+            (0, "each ballot was entered, now or before, or replaced since"),
+            (1, "one was not, FOLDER has strays, or something is in the way"),
+            (2, "wrong words"),
+            (3, "failed; a line says why, and the next run goes on from there"),
+        ],
+        environment=ADDRESS + JOURNAL + COPIES,
+    )
+    command.add_words(*DESK_AND_R, ("FOLDER", "has LOGIN.eml, .txt, .mbox or a Maildir LOGIN for each voter"))
+    add_address(command)
+    command.add_argument("--received-by", metavar="HOST", help="a mail arrived when HOST says so in Received")
+    command.add_argument("--domain", type=domain_name, metavar="DOMAIN", help="the voters are LOGIN@DOMAIN")
+    command.add_argument("--outbox", metavar="OUTBOX", help="where the answers go (default: FOLDER.outbox)")
+    command.add_argument("--journal", metavar="FILE", help="keep each vote in FILE (default: that of GR_DESK_JOURNAL)")
+    return command
 
 
-def run(words):
-    rest = take_desk(words, words.rest)
+def run(arguments):
+    rest = take_desk(arguments, arguments.rest)
     if len(rest) != 1:
-        told = f"there is a word too many: {rest[1]!r}" if rest else "the name of FOLDER is missing"
-        raise Wrong(f"{told}; gr-desk votes --help says more")
-    if journal_name(words) is None:
+        message = f"there is a word too many: {rest[1]!r}" if rest else "the name of FOLDER is missing"
+        raise Wrong(f"{message}; gr-desk votes --help says more")
+    if journal_name(arguments) is None:
         raise Wrong(NO_JOURNAL)
     if not os.path.isdir(rest[0]):
         raise Failed(f"{rest[0]} is no folder")
-    words.address = address_of(words) if words.desk is None else None
-    with journal_at(journal_name(words), is_made=True) as journal:
-        return post(words, rest[0], journal)
+    arguments.address = address_of(arguments) if arguments.desk is None else None
+    with journal_at(journal_name(arguments), is_made=True) as journal:
+        return post(arguments, rest[0], journal)

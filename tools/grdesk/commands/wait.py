@@ -1,22 +1,11 @@
-"""Waits until a desk answers that `serve` holds.
-
-    gr-desk wait [--port P | --socket PATH] [--seconds N]
-
-A `serve` that was started listens only once it has opened its desk. This tool ends as soon as that answers `GET /roll`,
-or after N seconds, 60 if no N is given. The desk is the one on port P or behind the socket PATH, or else that of the
-environment variable GR_DESK_PORT or GR_DESK_SOCKET. The answer takes one of the connections that `serve` counts; before
-it listens there is none.
-
-The exit status is 0 if the desk answers, 2 if the words are wrong, and 3 if it did not answer in that time; a line on
-error output says why.
-"""
+"""Wait until a desk that `serve` was started with answers"""
 import re
 import time
 
 from grdesk.desk.address import add_address, address_of
 from grdesk.desk.request import NoResponse, exchange, request_of
-from grdesk.parser import Parser
-from grdesk.stop import Failed, Wrong
+from grdesk.error import Failed, Wrong
+from grdesk.parser import ADDRESS, Parser
 
 # How long it waits if no N is given, and between two tries, in seconds.
 SECONDS, PAUSE = 60, 0.1
@@ -28,15 +17,22 @@ def seconds_number(text):
     return int(text)
 
 
-def reader():
-    parser = Parser(__doc__)
-    add_address(parser)
-    parser.add_argument("--seconds", type=seconds_number, metavar="N")
-    return parser
+def parser():
+    command = Parser(
+        "wait",
+        __doc__,
+        ["[--port P | --socket PATH] [--seconds N]"],
+        examples=["gr-desk wait --port 8080 --seconds 10"],
+        statuses=[(0, "it answers"), (2, "wrong words"), (3, "it did not answer in that time")],
+        environment=ADDRESS,
+    )
+    add_address(command)
+    command.add_argument("--seconds", type=seconds_number, metavar="N", help="wait so long at most (default: 60)")
+    return command
 
 
-def run(words):
-    address, seconds = address_of(words), words.seconds or SECONDS
+def run(arguments):
+    address, seconds = address_of(arguments), arguments.seconds or SECONDS
     end = time.monotonic() + seconds
     while True:
         try:

@@ -5,7 +5,7 @@ import re
 import socket
 from typing import NamedTuple, Union
 
-from grdesk.stop import Wrong
+from grdesk.error import Wrong
 
 LOCAL = "127.0.0.1"
 # The system takes no longer name of a socket, in bytes.
@@ -71,23 +71,23 @@ def socket_name(text):
 
 
 def add_address(parser):
-    """Takes the words that tell where `serve` is reached."""
-    parser.add_argument("--port", type=port_number, metavar="P")
-    parser.add_argument("--socket", type=socket_name, metavar="PATH")
+    """Takes the options that tell where `serve` is reached."""
+    parser.add_argument("--port", type=port_number, metavar="P", help="the desk that `serve` has open on port P")
+    parser.add_argument("--socket", type=socket_name, metavar="PATH", help="the one behind the socket PATH")
 
 
-def given_address(words):
+def given_address(arguments):
     """What the words give, or None."""
-    if words.port is not None and words.socket is not None:
+    if arguments.port is not None and arguments.socket is not None:
         raise Wrong("a --port and a --socket are given: one of them says which desk")
-    if words.port is not None:
-        return Port(words.port)
-    return None if words.socket is None else Socket(words.socket)
+    if arguments.port is not None:
+        return Port(arguments.port)
+    return None if arguments.socket is None else Socket(arguments.socket)
 
 
-def address_of(words):
+def address_of(arguments):
     """What the words give, or else the environment."""
-    return given_address(words) or address_of_environment()
+    return given_address(arguments) or address_of_environment()
 
 
 def address_of_environment():

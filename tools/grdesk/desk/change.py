@@ -2,7 +2,7 @@
 from grdesk.desk.copy import copied_again, log_of
 from grdesk.desk.digest import check_digests, read_digests
 from grdesk.desk.row import read_from, rows_in
-from grdesk.stop import Failed
+from grdesk.error import Failed
 
 
 def is_whole(copy):

@@ -16,13 +16,13 @@ from contextlib import suppress
 from typing import NamedTuple, Optional
 
 from grdesk.desk.digest import LEAST_LOG_BYTES, check_digests, digests_at, write_digests
-from grdesk.desk.private_folder import PREFIX, private_folder
+from grdesk.desk.private_folder import INDEX, PREFIX, private_folder
 from grdesk.desk.program import program
+from grdesk.error import Failed, Refused, Wrong
 from grdesk.interruption import undisturbed
 from grdesk.new_file import Folder, check_shared, naming, new_file, write_all
 from grdesk.output import hand_on, note
-from grdesk.regular_file import opened
-from grdesk.stop import Failed, Refused, Wrong
+from grdesk.regular_file import open_regular
 
 # What the program says of a desk of an earlier version, and of a file that is not there.
 TOO_OLD = b"fault F7 TooOld\n"
@@ -95,14 +95,14 @@ def new_place(name):
     place = os.path.join(folder, base)
     for path in place, log_of(place), journal_of(place):
         if os.path.lexists(path):
-            raise Refused(f"{path} is there")
+            raise Refused(f"{path} already exists")
     return place
 
 
 def head_of(log):
     """The first bytes of a log, and how many it has. None: there is no log."""
     try:
-        with opened(log) as file:
+        with open_regular(log) as file:
             return file.read(HEAD_BYTES), os.fstat(file.fileno()).st_size
     except FileNotFoundError:
         return None, 0
@@ -121,7 +121,7 @@ def is_settled(moment):
     return moment.file is None or not 0 <= time.time_ns() - moment.file[2] < TICK
 
 
-class Copied(NamedTuple):
+class CopyTries(NamedTuple):
     """How a copy was made: at which try, and how many tries met a log that began anew."""
 
     tries: int
@@ -140,7 +140,7 @@ def copy_desk(file, copy):
             behind = stamp_of(file)
             if head_of(log_of(copy))[0] == before.head and behind == before:
                 check_no_journal(file)
-                return Copied(number, begun_anew)
+                return CopyTries(number, begun_anew)
             begun_anew += behind.head != before.head
         with suppress(FileNotFoundError):
             os.unlink(log_of(copy))
@@ -152,7 +152,7 @@ def copy_bytes(source, target):
     """Copies a file from its beginning to its end: the first frame of a commit counts only once the others are there.
     What an earlier try left under the name is taken away first."""
     try:
-        with opened(source) as reader, new_file(target) as writer:
+        with open_regular(source) as reader, new_file(target) as writer:
             while piece := reader.read(PIECE):
                 with naming(target):
                     write_all(writer.fileno(), piece)
@@ -170,12 +170,13 @@ def folder_outside(path):
 
 
 def room_of(file, copies=1):
-    """How many bytes so many copies of a desk need. What opens one copies its log into its file."""
+    """How many bytes so many copies of a desk need. What opens one copies its log into its file, and puts the index of
+    the log beside it."""
     sizes = [0, 0]
     for place, path in enumerate((file, log_of(file))):
         with suppress(OSError):
             sizes[place] = os.stat(path).st_size
-    return copies * (sizes[0] + 2 * sizes[1])
+    return copies * (sizes[0] + 2 * sizes[1] + INDEX)
 
 
 def check_opens(copy, why):
@@ -198,7 +199,7 @@ def check_opens(copy, why):
             process.kill()
             raise
     if is_old:
-        note("this desk is of an earlier version, so of the copy it was not seen whether its rows are those of a desk")
+        note("this desk is of an earlier version, so the rows of its copy were not checked")
     elif process.returncode != 0:
         raise Failed(why)
 
@@ -212,9 +213,9 @@ def hand_on_named(line, file):
 
 
 def copied_again(copy, end="read"):
-    """A copy of a copy, with a name of its own, for what may write in it, as stock SQLite does where it reads."""
+    """A copy of a copy, with a name of its own, for what may write in it, or put a log beside it."""
     further = f"{copy}.{end}"
-    for part in parts_of(copy):
+    for part in parts_at(copy):
         copy_bytes(part, further + part.removeprefix(copy))
     return further
 
@@ -229,14 +230,14 @@ def sync(path):
         os.close(number)
 
 
-def parts_of(file):
+def parts_at(file):
     """What there is of the log and the digests of a file, and the file."""
     return [path for path in (log_of(file), digests_at(file), file) if os.path.exists(path)]
 
 
 def odd_part(copy):
     """What there is of a copy that is no file, or None: to read a FIFO would never end, and a link leads elsewhere."""
-    return next((part for part in (copy, *parts_of(copy)) if not stat.S_ISREG(os.lstat(part).st_mode)), None)
+    return next((part for part in (copy, *parts_at(copy)) if not stat.S_ISREG(os.lstat(part).st_mode)), None)
 
 
 def put_in_place(copy, folder, base):
@@ -244,7 +245,7 @@ def put_in_place(copy, folder, base):
     to stand there is left, since no name is ever taken from what has it."""
     given = []
     try:
-        for part in parts_of(copy):
+        for part in parts_at(copy):
             name = base + part.removeprefix(copy)
             give_name(part, folder, name)
             given.append(name)
@@ -259,7 +260,7 @@ def give_name(source, folder, name):
     try:
         folder.link(source, name)
     except FileExistsError:
-        raise Refused(f"{folder.path_of(name)} is there") from None
+        raise Refused(f"{folder.path_of(name)} already exists") from None
     except OSError as error:
         raise Failed(f"{folder.path_of(name)} cannot be made: {error.strerror}") from None
     os.unlink(source)
@@ -278,7 +279,7 @@ def copy_to(file, place, is_backup, is_wanted=None):
             check_opens(copy, "the copy does not open, and is not kept")
             if is_backup:
                 write_digests(copy, log_of(copy), base)
-            for path in parts_of(copy):
+            for path in parts_at(copy):
                 sync(path)
             if is_wanted is None or is_wanted(copy):
                 with undisturbed():
@@ -286,15 +287,15 @@ def copy_to(file, place, is_backup, is_wanted=None):
     return copied
 
 
-def is_held(path):
+def is_locked(path):
     """Whether another process holds a lock on the file, as a desk and stock SQLite do. None is taken to find out."""
-    asked = struct.pack("hhqqi", fcntl.F_WRLCK, os.SEEK_SET, LOCKS_START, LOCKS_LENGTH, 0)
+    request = struct.pack("hhqqi", fcntl.F_WRLCK, os.SEEK_SET, LOCKS_START, LOCKS_LENGTH, 0)
     with open(path, "rb") as file:
-        told = fcntl.fcntl(file, fcntl.F_GETLK, asked)
-    return struct.unpack("hhqqi", told)[0] != fcntl.F_UNLCK
+        answer = fcntl.fcntl(file, fcntl.F_GETLK, request)
+    return struct.unpack("hhqqi", answer)[0] != fcntl.F_UNLCK
 
 
-def is_held_without_name(path):
+def is_open_without_name(path):
     """Whether a process that can be looked at has the file open that was under this name until it was removed."""
     gone = f"{path} (deleted)"
     for process in filter(str.isdigit, os.listdir("/proc")):

@@ -5,10 +5,10 @@ import hashlib
 import os
 import re
 
+from grdesk.error import Failed
 from grdesk.new_file import naming, new_file, write_all
 from grdesk.output import note
-from grdesk.regular_file import opened
-from grdesk.stop import Failed
+from grdesk.regular_file import open_regular
 
 # A log that is shorter, as that of a desk that was closed, has nothing that the file lacks.
 LEAST_LOG_BYTES = 56
@@ -25,16 +25,21 @@ def has_frames(log):
 
 def digest_of(path):
     digest = hashlib.sha256()
-    with opened(path) as file:
+    with open_regular(path) as file:
         while piece := file.read(1 << 20):
             digest.update(piece)
     return digest.hexdigest()
 
 
+def digests_of(copy, log):
+    """Those of a copy: of its file, and of its log if that has anything."""
+    return [digest_of(path) for path in (copy, *([log] if has_frames(log) else []))]
+
+
 def write_digests(copy, log, name):
     """Writes those of a copy that is to have this name."""
-    parts = [(copy, name)] + ([(log, f"{name}-wal")] if has_frames(log) else [])
-    lines = b"".join(os.fsencode(line_of(digest_of(path), final)) for path, final in parts)
+    names = name, f"{name}-wal"
+    lines = b"".join(os.fsencode(line_of(*each)) for each in zip(digests_of(copy, log), names))
     with new_file(digests_at(copy)) as file, naming(digests_at(copy)):
         write_all(file.fileno(), lines)
 
@@ -49,7 +54,7 @@ def line_of(digest, name):
 def read_digests(name):
     """Those beside a copy: of its file, and of its log where that had anything. None: nothing stands there."""
     try:
-        with opened(digests_at(name)) as file:
+        with open_regular(digests_at(name)) as file:
             lines = file.read(65_536).split(b"\n")
     except FileNotFoundError:
         return None
@@ -67,9 +72,9 @@ def check_digests(name, copy, log):
         if not os.path.exists(log):
             note(f"warning: {name} has no log beside it; if it was copied without its log, acts are missing")
         return
-    told = f"{name} is not as it was copied"
+    message = f"{name} is not as it was copied"
     if has_frames(log) != (len(wanted) == 2):
-        raise Failed(f"{told}: {name}-wal {'is empty or gone' if len(wanted) == 2 else 'had nothing'}")
+        raise Failed(f"{message}: {name}-wal {'is empty or gone' if len(wanted) == 2 else 'had nothing'}")
     for path, of, digest in zip([copy, log], [name, f"{name}-wal"], wanted):
         if (found := digest_of(path)) != digest:
-            raise Failed(f"{told}: the SHA-256 of {of} is {found}, and {digests_at(name)} has {digest}")
+            raise Failed(f"{message}: the SHA-256 of {of} is {found}, and {digests_at(name)} has {digest}")

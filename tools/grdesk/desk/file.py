@@ -1,20 +1,23 @@
 """The file of a desk, to which acts are given by `gr-desk once`. No other process may hold it meanwhile."""
 import subprocess
 
-from grdesk.desk.copy import desk_at, is_held
+from grdesk.desk.copy import desk_at, is_locked
 from grdesk.desk.program import program
 from grdesk.desk.request import answer_in
-from grdesk.desk.row import header_in, read_from, voting_in
+from grdesk.desk.room import why_no_room
+from grdesk.desk.row import header_in, read_from, rows_in, voting_in
+from grdesk.error import Failed, Unsent
 from grdesk.interruption import undisturbed
 from grdesk.output import hand_on
-from grdesk.stop import Failed
 
 
-class NotOpened(Failed):
+class NotOpened(Unsent):
     """The program did not open the desk, and so it read no request. What it said is in `text`."""
 
-    def __init__(self, name, text):
-        super().__init__(f"nothing was sent: {name} does not open, and the program said: {text.strip()}")
+    def __init__(self, name, path, text):
+        full = text.startswith("fault ") and why_no_room(path)
+        why = f"; {full}: make room there first" if full else ""
+        super().__init__(f"{name} does not open, and the program said: {text.strip()}{why}")
         self.text = text
 
 
@@ -29,15 +32,19 @@ class DeskFile:
     def check_free(self):
         """Fails where another process holds the file."""
         try:
-            is_another = is_held(self.path)
+            is_another = is_locked(self.path)
         except OSError as error:
-            raise Failed(f"nothing was sent: {self.name} cannot be read: {error.strerror}") from None
+            raise Unsent(f"{self.name} cannot be read: {error.strerror}") from None
         if is_another:
-            told = f"nothing was sent: another process holds {self.name}"
-            raise Failed(f"{told}; where that is the service, `systemctl stop gr_desk.service gr_desk.socket` ends it")
+            stop = "`systemctl stop gr_desk.service gr_desk.socket` ends it"
+            raise Unsent(f"another process holds {self.name}; if that is the service, {stop}")
 
     def header(self):
         return read_from(header_in, self.path, self.name)
+
+    def rows(self):
+        """The rows of the tables."""
+        return read_from(rows_in, self.path, self.name)
 
     def in_voting(self):
         """The numbers of the resolutions in voting."""
@@ -51,9 +58,9 @@ class DeskFile:
             try:
                 ran = subprocess.run(line, input=request, capture_output=True, check=False, pass_fds=kept_open)
             except OSError as error:
-                raise NotOpened(self.name, f"{line[0]} cannot be run: {error.strerror}") from None
+                raise NotOpened(self.name, self.path, f"{line[0]} cannot be run: {error.strerror}") from None
         if not ran.stdout and ran.returncode == 3 and ran.stderr != b"lost\n":
-            raise NotOpened(self.name, ran.stderr.decode(errors="replace"))
+            raise NotOpened(self.name, self.path, ran.stderr.decode(errors="replace"))
         hand_on(ran.stderr)
         answer = answer_in(ran.stdout)
         if answer is None:

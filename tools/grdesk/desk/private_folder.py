@@ -1,6 +1,7 @@
 """Folders of mode 0700 for private copies of a desk, which have all its ballots: in $XDG_RUNTIME_DIR if that is set,
 is this account's alone and has room, and otherwise in gr-desk-UID of $TMPDIR or /tmp. Each is locked until its tool has
 taken it away. So a later tool finds those that a killed one left, and reports them."""
+import errno
 import fcntl
 import os
 import re
@@ -10,14 +11,16 @@ import tempfile
 from contextlib import ExitStack, contextmanager
 from pathlib import Path
 
+from grdesk.error import Refused
 from grdesk.interruption import undisturbed
-from grdesk.new_file import Folder
+from grdesk.new_file import Folder, write_all
 from grdesk.output import note
-from grdesk.stop import Refused
 
 PREFIX = ".desk-"
 # Their names, as `tempfile` draws them.
 NAME = re.compile(re.escape(PREFIX) + "[a-z0-9_]{8}")
+# SQLite puts the index of a log beside it, which has so many bytes for up to 8,192 pages in the log.
+INDEX = 1 << 16
 # How many bytes must be free in memory if a tool does not say how many it will copy.
 ROOM = 100_000_000
 OWNER_ALONE = 0o700
@@ -45,8 +48,8 @@ def report_left(place):
     for folder in left_in(place):
         if folder not in REPORTED:
             REPORTED.add(folder)
-            told = f"warning: {folder} was left by a tool that was killed, and has a copy of a desk, with all ballots"
-            note(f"{told}: rm -r {shlex.quote(folder)}")
+            message = f"warning: {folder} was left by a tool that was killed, and has a copy of a desk"
+            note(f"{message}, with all ballots: rm -r {shlex.quote(folder)}")
 
 
 class Lock:
@@ -120,6 +123,16 @@ def has_room(path, room):
     return about.f_bavail * about.f_frsize >= room
 
 
+def is_full(path):
+    """Whether the disk of a folder has no room for the index of a log."""
+    try:
+        with tempfile.TemporaryFile(buffering=0, dir=path) as file:
+            write_all(file.fileno(), bytes(INDEX))
+    except OSError as error:
+        return error.errno in (errno.ENOSPC, errno.EDQUOT)
+    return False
+
+
 def check_place(place):
     """Refuses a folder for private copies in which other accounts could look at them, or change them."""
     if is_own(place):
@@ -130,4 +143,4 @@ def check_place(place):
     else:
         what = "belongs to another account" if stat.S_ISDIR(about.st_mode) else "is no folder"
         what_to_do = "remove it, or set TMPDIR to a folder of your own"
-    raise Refused(f"nothing was done: {place}, where private copies of a desk lie, {what}: {what_to_do}")
+    raise Refused(f"no private copy of a desk can be made: {place} {what}: {what_to_do}")

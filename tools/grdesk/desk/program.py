@@ -3,9 +3,9 @@ import os
 from functools import lru_cache
 from pathlib import Path
 
+from grdesk.error import Failed
 from grdesk.inventory import TOP
 from grdesk.output import note
-from grdesk.stop import Failed
 
 # Where the sources have it. A folder that gr-desk install made has it under the name gr_desk, and no sources.
 BUILT = TOP / "crates" / "gr_main" / "out" / "gr_main"

@@ -51,7 +51,7 @@ def answer_on(connection):
         response.close()
 
 
-class Timely(io.RawIOBase):
+class TimedConnection(io.RawIOBase):
     """What comes on a connection until a moment. A peer has no more time where it sends a byte now and then."""
 
     def __init__(self, connection, end):
@@ -72,7 +72,7 @@ class Timely(io.RawIOBase):
         return self.connection.recv_into(room)
 
 
-class Printed:
+class PrintedResponse:
     """What a program has printed, in the place of a connection on which it comes."""
 
     def __init__(self, text):
@@ -85,7 +85,7 @@ class Printed:
 def answer_in(text):
     """The answer that a program has printed, or None where it is not whole."""
     try:
-        return answer_on(Printed(text))
+        return answer_on(PrintedResponse(text))
     except (OSError, HTTPException):
         return None
 
@@ -103,7 +103,7 @@ def exchange(address, request, patience=None):
             # What answers before it has taken all, as `too large`, may take no more of it.
             with suppress(BrokenPipeError):
                 connection.sendall(request)
-            return answer_on(connection if end is None else Timely(connection, end))
+            return answer_on(connection if end is None else TimedConnection(connection, end))
         except (OSError, HTTPException) as error:
             raise NoResponse(reason_of(error), was_connected=True) from None
 

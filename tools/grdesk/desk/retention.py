@@ -9,7 +9,7 @@ from typing import NamedTuple
 from grdesk.desk.copy import log_of
 from grdesk.desk.digest import digests_at
 from grdesk.desk.limit import DAY
-from grdesk.stop import Refused
+from grdesk.error import Refused
 
 # What the name of a desk is followed by in those of the copies that `votes` makes before it sends anything, and how
 # many of them it keeps.
@@ -33,6 +33,11 @@ class DatedCopy(NamedTuple):
         for part in self.path, digests_at(self.path), log_of(self.path):
             with suppress(FileNotFoundError):
                 os.unlink(part)
+
+
+def base_of(desk):
+    """The name of a desk without its folder, with which those of its copies begin."""
+    return os.path.basename(desk.rstrip("/"))
 
 
 def name_at(base, moment):

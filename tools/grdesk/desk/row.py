@@ -1,10 +1,13 @@
 """The rows of the six tables of a desk, and what is different between those of two."""
+import os
 import sqlite3
 from contextlib import closing, contextmanager
+from pathlib import Path
 from typing import NamedTuple
 
-from grdesk.desk.copy import copy_desk, private_folder, room_of
-from grdesk.stop import Failed
+from grdesk.desk.copy import copy_desk, folder_outside, room_of
+from grdesk.desk.private_folder import is_full, private_folder
+from grdesk.error import Failed
 
 # The key of each table, and its further columns, as docs/formats.md has them.
 TABLES = {
@@ -32,20 +35,30 @@ class Header(NamedTuple):
 
 
 @contextmanager
-def opened(copy, name):
-    """A copy of the desk under this name, as stock SQLite opens it."""
+def connection(copy, name):
+    """A copy of the desk under this name, as stock SQLite reads it. It changes neither the file nor a log that has
+    anything, but may put a log and its index beside them."""
     try:
-        with closing(sqlite3.connect(copy)) as conn:
+        with closing(sqlite3.connect(f"{Path(copy).absolute().as_uri()}?mode=ro", uri=True)) as conn:
             yield conn
     except sqlite3.Error as error:
-        raise Failed(f"{name} cannot be read as a desk: {error}") from None
+        raise Failed(why_not_read(copy, name, error)) from None
+
+
+def why_not_read(copy, name, error):
+    """Why a copy of the desk under this name is not read. SQLite writes beside it, and the disk may have no room."""
+    if is_full(os.path.dirname(copy)):
+        place = folder_outside(copy)
+        what_to_do = "make room there, or set TMPDIR to a folder on another disk"
+        return f"a private copy of {name} cannot be read, since the disk of {place} is full: {what_to_do}"
+    return f"{name} cannot be read as a desk: {error}"
 
 
 def header_in(copy, name):
-    with opened(copy, name) as conn:
+    with connection(copy, name) as conn:
         rows = conn.execute("SELECT accepted, clock FROM desk").fetchall()
     if len(rows) != 1 or not all(isinstance(number, int) for number in rows[0]):
-        raise Failed(f"{name} cannot be read as a desk: its table desk has no row, or another than a desk has")
+        raise Failed(f"{name} cannot be read as a desk: its table desk has no row, or one that no desk has")
     return Header(*rows[0])
 
 
@@ -60,7 +73,7 @@ def read_from(reads, file, name):
 def rows_in(copy, name):
     """The rows of each table of the desk under this name, by their keys, from a copy of it. Texts are bytes, since they
     may be no UTF-8 any more."""
-    with opened(copy, name) as conn:
+    with connection(copy, name) as conn:
         conn.text_factory = bytes
         return {table: dict(rows_of(conn, table)) for table in TABLES}
 
@@ -73,14 +86,14 @@ def rows_of(conn, table):
 
 def voting_in(copy, name):
     """The numbers of the resolutions in voting."""
-    with opened(copy, name) as conn:
+    with connection(copy, name) as conn:
         rows = conn.execute("SELECT number FROM resolution WHERE stage = ? ORDER BY number", [VOTING])
         return [number for (number,) in rows]
 
 
 def faults_in(copy, name):
     """What stock SQLite finds wrong with the file, beside its rows."""
-    with opened(copy, name) as conn:
+    with connection(copy, name) as conn:
         lines = [str(line) for (line,) in conn.execute("PRAGMA integrity_check")]
     return [] if lines == ["ok"] else lines
 

@@ -7,20 +7,22 @@ from typing import NamedTuple, Optional
 
 from grdesk.dates import moment_of
 from grdesk.desk.address import add_address, address_of, given_address
-from grdesk.desk.copy import NO_FILE, check_opens, copied_again, copy_desk, desk_at, private_folder, room_of
+from grdesk.desk.copy import NO_FILE, copied_again, copy_desk, desk_at, log_of, private_folder, room_of
+from grdesk.desk.digest import digests_of
+from grdesk.desk.limit import REMEDY
 from grdesk.desk.program import program
 from grdesk.desk.request import NoResponse, answer_in, exchange, request_of
 from grdesk.desk.row import header_in, rows_in
+from grdesk.error import Failed, Refused, Wrong
 from grdesk.output import counted, hand_on, shown
-from grdesk.stop import Failed, Refused, Wrong
 
 # How long an answer may take, in seconds: others may be served before, and silent ones for five seconds each.
 PATIENCE = 60
 
 NO_RESOLUTION = "refused 9 NoResolution"
 
-# How many copies of a desk there are at most for its sheets: one, and those for the rows and for a trial.
-COPIES = 3
+# How many copies of a desk there are at most for its sheets: one, and that for a trial.
+COPIES = 2
 
 
 class NotGiven(Refused):
@@ -32,7 +34,7 @@ class ServedSheets:
 
     def __init__(self, address):
         self.address = address
-        self.asked = 0
+        self.requests = 0
 
     def header(self):
         """None, since no sheet reports the desk's clock, or how many acts it accepted."""
@@ -50,41 +52,58 @@ class ServedSheets:
         try:
             status, body = exchange(self.address, request_of("GET", "/" + "/".join(map(str, words))), PATIENCE)
         except NoResponse as error:
-            self.asked += error.was_connected
-            told = f"{self.address} gave no sheet, after {counted(self.asked, 'connection')}"
-            raise Failed(f"{told}: {error}") from None
-        self.asked += 1
+            self.requests += error.was_connected
+            message = f"{self.address} gave no sheet, after {counted(self.requests, 'connection')}"
+            raise Failed(f"{message}: {error}") from None
+        self.requests += 1
         if status not in (200, 409, 503):
             raise Failed(f"what listens on {self.address.name} is no desk, and answered status {status}")
         return answer_of(status == 200, status == 409, body)
 
 
 class FileSheets:
-    """The sheets of a desk in a file, as they were at one moment: they are read from a copy of it."""
+    """The sheets of a desk in a file, as they were at one moment: they are read from one copy of it. The program runs
+    once for each."""
 
     def __init__(self, copy, name):
         self.copy = copy
         self.name = name
-        self.asked = 0
+        # What the program answered, by its words.
+        self.answers = {}
+
+    def digests(self):
+        return digests_of(self.copy, log_of(self.copy))
 
     def header(self):
-        return header_in(copied_again(self.copy), self.name)
+        return header_in(self.copy, self.name)
 
     def rows(self):
         """The rows of the tables."""
-        return rows_in(copied_again(self.copy), self.name)
+        return rows_in(self.copy, self.name)
 
     def tried(self, request, at):
         """What the desk would answer to a request at a moment, or None where a further copy does not tell."""
         line = [program(), "once", copied_again(self.copy, "tried"), "--at", str(at)]
         return answer_in(subprocess.run(line, input=request, capture_output=True, check=False).stdout)
 
-    def sheet(self, kind, *number):
+    def sheet(self, *words):
+        if words not in self.answers:
+            self.answers[words] = self.run(*words)
+        return answer_of(*self.answers[words])
+
+    def run(self, kind, *number):
+        """What the program answers: whether it is a sheet, whether it is a refusal, and its bytes."""
         line = [program(), kind, self.copy, *map(str, number)]
-        ran = subprocess.run(line, stdin=subprocess.DEVNULL, capture_output=True, check=False)
+        try:
+            ran = subprocess.run(line, stdin=subprocess.DEVNULL, capture_output=True, check=False)
+        except OSError as error:
+            raise Failed(f"{line[0]} cannot be run: {error.strerror}") from None
         if ran.stderr == NO_FILE:
             raise Failed(f"no file: {self.copy}, the private copy of {self.name}, was removed")
-        return answer_of(ran.returncode == 0, ran.returncode == 1, ran.stdout or ran.stderr)
+        if ran.returncode not in (0, 1) and not self.answers:
+            hand_on(ran.stderr)
+            raise Failed(f"{self.name} does not open")
+        return ran.returncode == 0, ran.returncode == 1, ran.stdout or ran.stderr
 
 
 def answer_of(is_given, is_refused, answer):
@@ -98,35 +117,34 @@ def answer_of(is_given, is_refused, answer):
     if is_refused and re.fullmatch("refused [0-9]+ [A-Za-z]+\n", text):
         raise NotGiven(text.removesuffix("\n"))
     hand_on(shown(text.removesuffix("\n")).encode() + b"\n")
-    raise Failed("the desk gave no sheet, and said what stands above")
+    raise Failed("the desk gave no sheet, and said what is above")
 
 
 def add_desk(parser):
     """Takes the words that name a desk: its file, or where the `serve` is reached that holds it."""
-    parser.add_argument("desk", metavar="DESK", nargs="?")
+    parser.add_argument("desk", metavar="DESK", nargs="?", help="the file of the desk; not with --port or --socket")
     add_address(parser)
 
 
 @contextmanager
-def sheets_of(words):
+def sheets_of(arguments):
     """The sheets of the desk that the words name."""
-    if words.desk is None:
-        yield ServedSheets(address_of(words))
+    if arguments.desk is None:
+        yield ServedSheets(address_of(arguments))
         return
-    if address := given_address(words):
+    if address := given_address(arguments):
         raise Wrong(f"a DESK and a {address.option} are given: one of them says which desk")
-    file = desk_at(words.desk)
+    file = desk_at(arguments.desk)
     with private_folder(room=room_of(file, COPIES)) as folder:
         copy = str(folder / "desk")
         copy_desk(file, copy)
-        check_opens(copy, f"{words.desk} does not open")
-        yield FileSheets(copy, words.desk)
+        yield FileSheets(copy, arguments.desk)
 
 
 # What the lines say.
 
 
-class Lines:
+class SheetLines:
     """The lines of a sheet, from the first one on."""
 
     def __init__(self, what, text):
@@ -147,7 +165,7 @@ class Lines:
         """Takes the next line, which has to have this form."""
         found = self.find(pattern)
         if not found:
-            raise Failed(f"line {self.at + 1} of {self.what} is none of such a sheet, so what answers is no desk")
+            raise Failed(f"line {self.at + 1} of {self.what} does not fit such a sheet, so what answers is no desk")
         return found
 
     def all(self, pattern):
@@ -159,7 +177,7 @@ class Lines:
 
     def end(self):
         if self.at < len(self.lines):
-            raise Failed(f"line {self.at + 1} of {self.what} is none of such a sheet, so what answers is no desk")
+            raise Failed(f"line {self.at + 1} of {self.what} does not fit such a sheet, so what answers is no desk")
 
 
 NUMBER = "(0|[1-9][0-9]{0,9})"
@@ -180,7 +198,7 @@ class Outcome(NamedTuple):
 
 
 def outcome_of(number, text):
-    lines = Lines(f"the result of resolution {number}", text)
+    lines = SheetLines(f"the result of resolution {number}", text)
     lines.all("(?!Schwartz: ).*")
     return Outcome(outcome_in(lines), bool(lines.find("Casting vote needed")))
 
@@ -195,7 +213,7 @@ class Developer(NamedTuple):
 
 def roll_of(text):
     """The developers of the roll."""
-    lines = Lines("the roll", text)
+    lines = SheetLines("the roll", text)
     lines.take(f"Developers: {NUMBER}")
     lines.take(f"Current: {NUMBER}")
     found = lines.all(r"D: (\S+) (current|retired) (.*)")
@@ -216,6 +234,17 @@ class Choice(NamedTuple):
     place: Optional[int]
     text: list
 
+    @property
+    def developer(self):
+        """The login of the developer who proposes it, or None."""
+        kind, _, login = self.proposer.partition(" ")
+        return login if kind == "developer" else None
+
+    @property
+    def lapse(self):
+        """When a short choice lapses, unless it gets what it lacks before then (Constitution, A.2.3), or None."""
+        return None if self.short is None else self.short + REMEDY
+
 
 class Status(NamedTuple):
     """A resolution. Its spans are two moments, or None where its stage has none; so are the developers of its call."""
@@ -229,7 +258,7 @@ class Status(NamedTuple):
 
 
 def status_of(number, text):
-    lines = Lines(f"the status of resolution {number}", text)
+    lines = SheetLines(f"the status of resolution {number}", text)
     lines.take(f"Resolution {number}")
     stage = lines.take("Stage: (Draft|Discussing|Voting|Closed|Cancelled)")[1]
     spans = [lines.find(f"{word}: {TIME} to {TIME}") for word in ("Discussion", "Voting")]
@@ -270,6 +299,6 @@ def statuses_of(desk):
 # How what a desk says is shown.
 
 def proposer_of(choice):
-    if choice.proposer.startswith("developer "):
-        return f"proposed by {shown(choice.proposer[len('developer '):])}"
+    if choice.developer is not None:
+        return f"proposed by {shown(choice.developer)}"
     return "nobody proposes it" if choice.proposer == "none" else f"proposed by the {choice.proposer}"

@@ -1,23 +1,21 @@
 """A check of a desk: all acts of its journal are entered into a new desk, or into a copy, and each row is compared."""
 import subprocess
 
-from grdesk.desk.copy import copied_again, copy_desk, desk_at
+from grdesk.desk.copy import copy_desk, desk_at
 from grdesk.desk.program import program
 from grdesk.desk.row import accepted_in, faults_in, rows_in
+from grdesk.journal.comparison import Comparison, MadeDesk
 from grdesk.journal.journal import lacks_acts
 from grdesk.journal.open_act import keep_accepted, where_seen
-from grdesk.journal.prefix import Comparison, Made
 from grdesk.journal.replay import check_whole, lacks_of, unanswered, way_to_settle
 from grdesk.output import note, say, say_line, shown
 
 
-def check_desk(journal, desk, from_copy, folder):
+def print_differences(journal, desk, from_copy, folder):
     """Prints each difference between a desk and what the acts of its journal make, in a folder of its own, and gives
     the exit status."""
     copy = str(folder / "found")
     copy_desk(desk_at(desk), copy)
-    # Stock SQLite may write what it reads, and knows of no sums.
-    closed = copied_again(copy, "closed")
     found = rows_in(copy, desk)
     comparison = Comparison.begin(journal.entries, found, folder, from_copy)
     made = made_desk(comparison)
@@ -27,14 +25,14 @@ def check_desk(journal, desk, from_copy, folder):
     if is_behind:
         note(f"{desk} lacks acts that {journal.name} has")
         made = with_all(comparison, made)
-    lines = [*faults, *made.differences] or unopened(closed)
+    lines = [*faults, *made.differences] or unopened(copy)
     for line in lines:
         say_line(shown(line))
     if comparison.first > accepted_in(found):
         note(f"{from_copy} has more acts than {desk}: it is a copy of another desk, or {desk} has lost acts")
     if is_behind and is_prefix and not faults:
-        told = f"what {desk} has is what the first acts of {journal.name} make"
-        note(f"{told}: gr-desk journal replay enters the others")
+        message = f"{desk} has just what the first acts of {journal.name} make"
+        note(f"{message}: gr-desk journal replay enters the others")
     elif lines:
         tell_difference(journal, desk, lacks)
     elif lacks:
@@ -47,20 +45,20 @@ def check_desk(journal, desk, from_copy, folder):
 def tell_difference(journal, desk, lacks):
     """Says what a difference may come from, and what to do then. A replay would undo an act that came by another way.
     """
-    told = f"{desk} differs from what the acts of {journal.name} make, in what stands above"
+    message = f"{desk} differs from what the acts of {journal.name} make, in the lines above"
     if lacks:
-        note(f"{told}; {lacks}, so that a replay does not mend it")
+        note(f"{message}; {lacks}, so a replay does not mend it")
         return
-    note(f"{told}; one of the two is wrong: gr-desk roll, gr-desk status and gr-desk journal list show which")
-    note("if an act came by another way, the desk is right: a replay would undo that act, so let the desk be")
-    note("only if a bit turned, so that a value is one that no act gave, may an earlier copy and a replay mend it")
+    note(f"{message}; one of the two is wrong: gr-desk roll, gr-desk status and gr-desk journal list show which")
+    note("if an act came by another way, the desk is right: a replay would undo that act, so leave the desk as it is")
+    note("only if a bit turned, and a value is one that no act gave, can an earlier copy and a replay mend it")
 
 
 def made_desk(comparison):
     """The desk that is compared, of the acts up to the number of the desk's last one. Where open acts may be among
     them, it is the one that is the same, and it is said which of them the desk has; else, that nobody can tell."""
     entries = comparison.entries
-    made = comparison.made()
+    made = comparison.made_desks()
     same = [each for each in made if not each.differences]
     if len(same) == 1:
         # The journal is read alone here, so no line keeps that.
@@ -73,7 +71,7 @@ def made_desk(comparison):
     if comparison.missing and comparison.missing[0] < entries.last:
         check_whole(entries, comparison.first, entries.last)
     comparison.enter_known()
-    return Made({}, comparison.begun, comparison.differences_to(comparison.begun))
+    return MadeDesk({}, comparison.begun, comparison.differences_to(comparison.begun))
 
 
 def with_all(comparison, made):

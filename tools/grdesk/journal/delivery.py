@@ -11,36 +11,36 @@ from grdesk.dates import dated
 from grdesk.desk.address import address_of, given_address
 from grdesk.desk.file import DeskFile, NotOpened
 from grdesk.desk.request import NoResponse, exchange
+from grdesk.error import Failed, Refused, Unsent, Wrong
 from grdesk.interruption import undisturbed
 from grdesk.journal.entry import Fate
 from grdesk.journal.journal import Journal, journal_at, journal_name, lacks_acts
-from grdesk.journal.open_act import settle, tell
+from grdesk.journal.open_act import report_open_acts, settle_open_acts
 from grdesk.journal.source import FATES, acts_from, source_of
 from grdesk.output import confirm, is_at_terminal, note, say
-from grdesk.stop import Failed, Refused, Wrong
 
 
-def check_words(words):
+def check_words(arguments):
     """Refuses words that do not go together."""
-    address = given_address(words)
-    if words.desk is not None and address is not None:
+    address = given_address(arguments)
+    if arguments.desk is not None and address is not None:
         raise Wrong(f"a --desk and a {address.option} are given: one of them says which desk")
-    if not words.ahead:
-        check_seconds("--at", words.at)
-        check_seconds("--hold-until", words.hold_until)
-    if words.hold is not None and words.hold_until is not None:
+    if not arguments.ahead:
+        check_seconds("--at", arguments.at)
+        check_seconds("--hold-until", arguments.hold_until)
+    if arguments.hold is not None and arguments.hold_until is not None:
         raise Wrong("--hold and --hold-until are given: one of them says until when")
-    holds = words.hold is not None or words.hold_until is not None
-    for option, is_given in (("--at", words.at is not None), ("--ahead", words.ahead), ("--hold", holds)):
-        if is_given and words.desk is None:
-            raise Wrong(f"{option} needs --desk: an act that goes to a port has the moment at which it comes there")
-    for option, is_given in (("--source", words.source is not None), ("--hold", holds)):
-        if is_given and journal_name(words) is None:
+    holds = arguments.hold is not None or arguments.hold_until is not None
+    for option, is_given in (("--at", arguments.at is not None), ("--ahead", arguments.ahead), ("--hold", holds)):
+        if is_given and arguments.desk is None:
+            raise Wrong(f"{option} needs --desk: an act for a port gets the moment at which it arrives there")
+    for option, is_given in (("--source", arguments.source is not None), ("--hold", holds)):
+        if is_given and journal_name(arguments) is None:
             raise Wrong(f"{option} needs a journal, which keeps it: --journal FILE, or GR_DESK_JOURNAL")
-    if words.give_up and (words.desk is None or journal_name(words) is None):
-        raise Wrong("--give-up needs --desk and a journal, by which is seen what the desk lacks")
-    if words.give_up and holds:
-        raise Wrong("--give-up and --hold stand there: an act that waits gives up none")
+    if arguments.give_up and (arguments.desk is None or journal_name(arguments) is None):
+        raise Wrong("--give-up needs --desk and a journal, which show what the desk lacks")
+    if arguments.give_up and holds:
+        raise Wrong("--give-up and --hold are given: an act on hold gives up no other")
 
 
 @contextmanager
@@ -49,7 +49,7 @@ def unsent():
     try:
         yield
     except Failed as error:
-        raise Failed(f"nothing was sent: {error}") from None
+        raise Unsent(error) from None
 
 
 def desk_of(name):
@@ -57,15 +57,15 @@ def desk_of(name):
         return DeskFile(name)
 
 
-def deliver(act, words, announce):
+def deliver(act, arguments, announce):
     """Gives the answer to an act, or None where it is held. `announce` is called just before it is sent."""
-    source = source_of(words.source)
-    address = address_of(words) if words.desk is None else None
-    desk = None if words.desk is None else desk_of(words.desk)
-    name = journal_name(words)
+    source = source_of(arguments.source)
+    address = address_of(arguments) if arguments.desk is None else None
+    desk = None if arguments.desk is None else desk_of(arguments.desk)
+    name = journal_name(arguments)
     with journal_at(name, is_made=True) if name else nullcontext() as journal:
-        delivery = Delivery(act, source, words.yes, announce, journal)
-        return delivery.to_file(desk, words) if desk else delivery.to_port(address)
+        delivery = Delivery(act, source, arguments.yes, announce, journal)
+        return delivery.to_file(desk, arguments) if desk else delivery.to_port(address)
 
 
 @dataclass
@@ -84,47 +84,38 @@ class Delivery:
         before = int(time.time())
         if self.journal is None:
             self.announce()
-            return send(address, self.act)
+            return send_act(address, self.act)
         entries = self.journal.entries
-        tell(entries)
+        report_open_acts(entries)
         self.check_source()
         if self.is_behind_held(before):
             return self.hold(entries.desk, before, None)
         lost = self.lost_by(before)
-        last = entries.last
         self.announce()
-        number = self.journal.begin(self.act, None, source=self.source, before=before)
-        try:
-            answer = send(address, self.act)
-        except NothingSent:
-            self.journal.add("found", number=number, count=None)
-            raise
-        keep(self.journal, number, answer, after=int(time.time()))
-        if entries.all[number].fate is Fate.ACCEPTED and entries.last <= last:
-            tell_gone(self.journal)
+        answer, _ = send_kept(self.journal, address, self.act, before, self.source)
         self.drop(lost, answer)
         return answer
 
-    def to_file(self, desk, words):
+    def to_file(self, desk, arguments):
         # A program that a killed tool had started has the lock until it ends, and no other has the desk then.
         desk.check_free()
         now = int(time.time())
-        moment = now if words.at is None else words.at
+        moment = now if arguments.at is None else arguments.at
         with unsent():
             header = desk.header()
-        if not words.ahead:
+        if not arguments.ahead:
             check_clocks(moment, header.clock, now)
-        until = until_of(words, moment)
+        until = until_of(arguments, moment)
         is_late_call = self.check_call(moment, now if until is None else max(now, until))
         if self.journal is None:
             # A rehearsal needs none.
-            if not words.ahead:
+            if not arguments.ahead:
                 note("no journal keeps this act; --journal FILE does, or GR_DESK_JOURNAL")
             self.announce()
             return desk.enter(self.act.request(), moment)
-        self.check_journal(desk, header, moment, words.give_up)
+        self.check_journal(desk, header, moment, arguments.give_up)
         if until is not None or self.is_behind_held(moment):
-            if words.give_up:
+            if arguments.give_up:
                 self.check_none_held(moment)
             self.check_hold(desk, header, moment, until)
             return self.hold(desk.path, moment, until)
@@ -142,7 +133,7 @@ class Delivery:
         if gives_up and self.is_behind_held(moment):
             self.check_none_held(moment)
         check_has_all(self.journal, desk, header, gives_up)
-        settle(self.journal, header, desk)
+        settle_open_acts(self.journal, header, desk)
         self.check_source()
 
     def check_source(self):
@@ -157,24 +148,25 @@ class Delivery:
             confirm("Send this act all the same?", "act")
         else:
             numbers = ", ".join(entry.number for entry in known)
-            told = f"nothing was sent: the journal has {numbers} from the same source"
-            raise Refused(f"{told}; with --yes this act is sent all the same")
+            message = f"nothing was sent: the journal has {numbers} from the same source"
+            raise Refused(f"{message}; with --yes this act is sent all the same")
 
     def check_call(self, moment, coming):
         """Whether this is a call that comes after its date, dated back or held. It leaves the voters less time."""
         if not self.act.path.endswith("/call") or moment >= coming:
             return False
-        told = late_call(self.act, moment, coming)
+        message = late_call(self.act, moment, coming)
         if not self.is_sure:
-            raise Refused(f"nothing was sent: {told}; with --yes it is sent all the same")
-        note(f"warning: {told}")
+            raise Refused(f"nothing was sent: {message}; with --yes it is sent all the same")
+        note(f"warning: {message}")
         return True
 
     def check_none_held(self, moment):
         """The --yes of a call is for its date, and gives up no held act. Nor does an act with --give-up wait."""
         if held := self.held_before(moment):
-            told = f"nothing was sent: acts with an earlier date are held, {', '.join(each.number for each in held)}"
-            raise Refused(f"{told}: say gr-desk journal due, or gr-desk journal drop, before this one")
+            numbers = ", ".join(each.number for each in held)
+            message = f"nothing was sent: acts with an earlier date are on hold, {numbers}"
+            raise Refused(f"{message}: first run gr-desk journal due, or gr-desk journal drop")
 
     def held_before(self, moment):
         """The held acts with an earlier date, which the desk takes no more after this one."""
@@ -187,8 +179,8 @@ class Delivery:
     def check_hold(self, desk, header, moment, until):
         """Refuses an act that would wait in vain, and says where one that is to wait has ballots wait too."""
         if moment < header.clock:
-            told = f"nothing was sent: the desk's clock is {dated(header.clock)}"
-            raise Refused(f"{told}, so that an act which is dated before waits in vain")
+            message = f"nothing was sent: the desk's clock is {dated(header.clock)}"
+            raise Refused(f"{message}, so an act with an earlier date would wait in vain")
         if until is not None and (running := desk.in_voting()):
             names = ", ".join(f"resolution {number}" for number in running)
             note(f"warning: in voting: {names}; ballots with a later date wait until this act is sent")
@@ -206,7 +198,8 @@ class Delivery:
         """The held acts that are lost if this one is accepted."""
         lost = self.held_before(moment)
         for entry in lost:
-            note(f"warning: {entry.number} ({entry.words()}) is held at an earlier date, and lost if this is accepted")
+            message = f"{entry.number} ({entry.words()}) is on hold with an earlier date"
+            note(f"warning: {message}, and is lost if this act is accepted")
         return lost
 
     def drop(self, lost, answer):
@@ -216,45 +209,62 @@ class Delivery:
                 for entry in lost:
                     self.journal.add("dropped", number=entry.number, source=None)
             except Failed as error:
-                note(f"what is lost stays held in the journal: {error}")
+                note(f"the lost acts stay on hold in the journal: {error}")
 
 
 def tell_gone(journal):
     """Says that the desk lacked acts of the journal, which by a port its answer alone reports."""
-    told = f"warning: the desk lacks acts that {journal.name} has, as after a restore, or is another desk"
-    note(f"{told}; by this act they are given up")
-    told = "to have them again, end `serve`, put the copy back again, take the last two lines out of the journal"
-    note(f"{told}, say gr-desk journal replay, and send this act again")
+    message = f"warning: the desk lacks acts that {journal.name} has, for example after a restore, or is another desk"
+    note(f"{message}; this act gives them up")
+    message = "to get them back, end `serve`, restore the copy again, remove the last two lines of the journal"
+    note(f"{message}, run gr-desk journal replay, and send this act again")
 
 
 def check_has_all(journal, desk, header, gives_up=False):
     """Looks whether the desk has what the journal has, as it has not where a copy was put back."""
     entries = journal.entries
     if lacks_acts(entries, header.accepted):
-        told = f"{desk.name} lacks acts that {journal.name} has"
+        message = f"{desk.name} lacks acts that {journal.name} has"
         if not gives_up:
             done = f"gr-desk journal replay {journal.name} {desk.name} enters them"
-            raise Refused(f"nothing was sent: {told}; {done}, and gr-desk act gives them up with --give-up")
-        note(f"warning: {told}, and they are given up")
+            raise Refused(f"nothing was sent: {message}; {done}, and gr-desk act gives them up with --give-up")
+        note(f"warning: {message}, and they are given up")
     elif entries.accepted and not entries.waiting and header.accepted > entries.last:
-        note(f"warning: {desk.name} has acts that came by another way, so that a replay does not go past them")
+        note(f"warning: {desk.name} has acts that came by another way, so a replay cannot go past them")
 
 
-class NothingSent(Failed):
+class NotTaken(Unsent):
     """Nobody takes the connection. A proxy takes each one, and then what it has not answered is lost."""
 
 
-def send(address, act):
+def send_act(address, act):
     """The answer to the one request to the desk that is reached there."""
     try:
         answer = exchange(address, act.request())
     except NoResponse as error:
         if not error.was_connected:
-            raise NothingSent(f"nothing was sent: {address}: {error}") from None
+            raise NotTaken(f"{address}: {error}") from None
         raise Failed(f"lost: the answer did not come whole; {act.when_lost()}") from None
     if answer.status not in EXITS:
         raise Failed(f"lost: what listens on {address.name} is no desk, and answered status {answer.status}")
     return answer
+
+
+def send_kept(journal, address, act, before, source=None):
+    """Sends an act to the desk that is reached there, and keeps both it and its answer. `before` is a moment before it
+    is sent. Gives the answer, and whether the desk lacked acts of the journal, which that alone reports."""
+    last = journal.entries.last
+    number = journal.begin(act, None, source=source, before=before)
+    try:
+        answer = send_act(address, act)
+    except NotTaken:
+        journal.add("found", number=number, count=None)
+        raise
+    keep(journal, number, answer, after=int(time.time()))
+    lacked_acts = journal.entries.all[number].fate is Fate.ACCEPTED and journal.entries.last <= last
+    if lacked_acts:
+        tell_gone(journal)
+    return answer, lacked_acts
 
 
 def enter_kept(journal, desk, act, moment, count, source=None, number=None):

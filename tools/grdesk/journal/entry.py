@@ -29,11 +29,12 @@ LINES = {
     ("replay", 1): OF_A_REPLAY,
     ("replay", 2): {**OF_A_REPLAY, "inode": int, "count": int},
     ("replayed", 1): {"is_done": bool},
+    ("replaced", 1): {"resolution": int, "login": str, "ranks": str, "token": (str, NONE), "source": dict},
 }
 FORMS = dict(sorted(LINES))
 
 
-class Unknown(Exception):
+class UnknownForm(Exception):
     """A line is of no known form."""
 
 
@@ -115,10 +116,20 @@ class Entry:
         return shown(" ".join([self.act, *filter(None, [act_at(self.path)[1]]), *named]))
 
 
+@dataclass
+class Replaced:
+    """A ballot that a later one of the same voter replaced before it was sent, so that no act has it. Its token is None
+    if its form has none."""
+
+    resolution: int
+    fields: dict
+    source: dict
+
+
 def arrived(entry):
     """When the mail of an act arrived, as far as is known: at the act's own moment if its source does not say it."""
-    told = (entry.source or {}).get("arrived")
-    return told if isinstance(told, int) else entry.seconds()[-1]
+    moment = (entry.source or {}).get("arrived")
+    return moment if isinstance(moment, int) else entry.seconds()[-1]
 
 
 # The fields that stand in one line with the act.
@@ -129,6 +140,7 @@ class Entries:
     """The acts of a journal, as its lines tell them one after the other."""
 
     def __init__(self):
+        self.lines = []
         self.all = {}
         # How many there are: of votes, and of the others.
         self.counts = {True: 0, False: 0}
@@ -143,6 +155,18 @@ class Entries:
         self.desk = None
         # The line of a replay that was begun, and of which no line says whether it was done.
         self.replay = None
+        # The ballots that were replaced before they were sent.
+        self.replaced = []
+        # Where the lines are that say of acts without an answer what became of them, by the numbers of these acts.
+        self.settled = {}
+
+    @classmethod
+    def of(cls, lines):
+        """The acts of these lines."""
+        entries = cls()
+        for line in lines:
+            entries.take(line)
+        return entries
 
     def held(self):
         """The held acts in the order in which they must be entered."""
@@ -185,20 +209,36 @@ class Entries:
         """Takes the next line."""
         check_form(line)
         getattr(self, f"take_{line['line']}")(line)
+        self.lines.append(line)
+
+    def after(self, line):
+        """The acts with one more line. One that says again what became of an act counts in the place of the first."""
+        check_form(line)
+        if line["line"] != "found" or line["number"] not in self.settled:
+            self.take(line)
+            return self
+        place = self.settled[line["number"]]
+        return Entries.of([*self.lines[:place], line, *self.lines[place + 1 :]])
+
+    def unsettled(self, number):
+        """The acts as they are where nothing says what became of this one."""
+        place = self.settled.get(number)
+        return self if place is None else Entries.of([*self.lines[:place], *self.lines[place + 1 :]])
 
     def entry(self, number, *fates):
         """The act of this number, of which one of these is known so far."""
         entry = self.all.get(number)
         if entry is None or entry.fate not in fates:
-            raise Unknown
+            raise UnknownForm
         return entry
 
     def take_act(self, line):
         """An act is about to be sent: a new one, or one that was held."""
         if (line["moment"] is None) == (line["before"] is None):
-            raise Unknown
+            raise UnknownForm
         if line["number"] in self.all:
             entry = self.entry(line["number"], Fate.HELD)
+            self.settled.pop(entry.number, None)
         else:
             entry = self.new(line)
         entry.fate = Fate.OPEN
@@ -213,9 +253,9 @@ class Entries:
 
     def new(self, line):
         if set(line["fields"]) != fields_at(line["path"]):
-            raise Unknown
+            raise UnknownForm
         if line["number"] != self.next_number(Act(line["path"], {}).is_vote):
-            raise Unknown
+            raise UnknownForm
         if line["desk"] is not None:
             self.desk = line["desk"]
         entry = Entry(*(line[field] for field in ("number", "path", "fields", "source", "moment")))
@@ -230,9 +270,9 @@ class Entries:
 
     def settle(self, entry, status, text):
         """An answer says what became of an act, unless it is that of a fault."""
-        told = ACCEPTED.fullmatch(text)
-        if status == 200 and told:
-            self.accept(entry, int(told[1]))
+        match = ACCEPTED.fullmatch(text)
+        if status == 200 and match:
+            self.accept(entry, int(match[1]))
         elif status not in (200, 503):
             self.refuse(entry)
 
@@ -279,11 +319,12 @@ class Entries:
     def take_found(self, line):
         """It was looked for an act of which no answer is kept. One that was held is so again where it did not come."""
         entry = self.entry(line["number"], Fate.OPEN)
+        self.settled[entry.number] = len(self.lines)
         if line["count"] is None:
             self.refuse(entry)
             entry.fate = Fate.HELD if entry.is_held else entry.fate
         elif entry.below is not None and not self.may_have(entry, line["count"]):
-            raise Unknown
+            raise UnknownForm
         else:
             self.accept(entry, line["count"])
 
@@ -292,15 +333,23 @@ class Entries:
         self.refuse(entry)
         entry.fate, entry.why_dropped = Fate.DROPPED, line.get("source")
 
+    def take_replaced(self, line):
+        if not isinstance(line["source"].get("arrived"), int):
+            raise UnknownForm
+        fields = {name: line[name] for name in ("login", "ranks", "token")}
+        self.replaced.append(Replaced(line["resolution"], fields, line["source"]))
+
     def take_replay(self, line):
         self.replay = line
 
     def take_replayed(self, line):
         if self.replay is None:
-            raise Unknown
+            raise UnknownForm
         replay, self.replay = self.replay, None
         if not line["is_done"]:
             return
+        # The desk was made of what the journal says here.
+        self.settled = {}
         self.desk = replay["desk"]
         if replay["without"] is not None:
             self.leave_out(self.entry(replay["without"], *Fate))
@@ -341,12 +390,12 @@ def line_of(kind, **fields):
 def check_form(line):
     """Looks whether a line has just the fields of its kind, each of its type."""
     if not isinstance(line, dict) or not isinstance(line.get("line"), str) or type(line.get("form")) is not int:
-        raise Unknown
+        raise UnknownForm
     fields = LINES.get((line["line"], line["form"]))
     if fields is None or set(line) != {"form", "line", *fields}:
-        raise Unknown
+        raise UnknownForm
     if not all(isinstance(line[field], types) for field, types in fields.items()):
-        raise Unknown
+        raise UnknownForm
     texts = line.get("fields", {}), line.get("answers", {})
     if not all(isinstance(text, str) for each in texts for text in each.values()):
-        raise Unknown
+        raise UnknownForm

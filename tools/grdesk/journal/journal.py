@@ -7,11 +7,11 @@ import stat
 from contextlib import contextmanager, suppress
 
 from grdesk.desk.copy import desk_at, sync
-from grdesk.desk.digest import digest_of
-from grdesk.desk.row import header_in, read_from
-from grdesk.journal.entry import Entries, Unknown, line_of
+from grdesk.error import Failed, Refused, Stop, Unsent, Wrong
+from grdesk.journal.entry import Entries, UnknownForm, line_of
+from grdesk.journal.stopped_replay import became_of
+from grdesk.new_file import is_trusted, write_all
 from grdesk.output import note
-from grdesk.stop import Failed, Refused, Wrong
 
 # What each line begins with.
 HEAD = b'{"form": '
@@ -40,12 +40,12 @@ class Journal:
         for number, line in enumerate(lines, start=1):
             is_last = number == len(lines)
             if is_last and is_half_written(line, text.endswith(b"\n")):
-                note(f"the last line of {self.name} was written in part, by a stop, and is left out")
+                note(f"the last line of {self.name} was cut off by a stop, and is skipped")
                 return
             try:
-                self.entries.take(json.loads(line))
-            except (Unknown, ValueError):
-                raise Failed(f"line {number} of {self.name} is of no form that this tool knows") from None
+                self.entries = self.entries.after(json.loads(line))
+            except (UnknownForm, ValueError):
+                raise Failed(f"line {number} of {self.name} has a form that this tool does not know") from None
             self.length += len(line) + 1
 
     def add(self, kind, **fields):
@@ -54,18 +54,16 @@ class Journal:
         text = json.dumps(line).encode() + b"\n"
         try:
             os.ftruncate(self.descriptor, self.length)
-            rest = text
-            while rest:
-                rest = rest[os.write(self.descriptor, rest) :]
+            write_all(self.descriptor, text)
             os.fsync(self.descriptor)
         except OSError as error:
             raise Failed(f"{self.name} cannot be written: {error.strerror}") from None
         self.length += len(text)
-        self.entries.take(line)
+        self.entries = self.entries.after(line)
 
     def know(self, kind, **fields):
         """Takes a line as if it stood there."""
-        self.entries.take(line_of(kind, **fields))
+        self.entries = self.entries.after(line_of(kind, **fields))
 
     def begin(self, act, desk, number=None, source=None, moment=None, before=None, count=None):
         """Keeps an act that is about to be sent: a new one, or a held one with its number. Gives the number."""
@@ -75,7 +73,7 @@ class Journal:
         try:
             self.add("act", **what, moment=moment, before=before, count=count)
         except Failed as error:
-            raise Failed(f"nothing was sent: {error}") from None
+            raise Unsent(error) from None
         if is_new and not self.is_quiet:
             note(f"{self.name} has it as {number}")
         return number
@@ -89,35 +87,31 @@ class Journal:
 
     def finish_replay(self, is_read):
         """Finds out whether a replay that was begun had put its copy in the place of the desk, says so, and keeps it
-        where the journal is not read alone."""
+        where the journal is not read alone. If the desk is gone, a later tool finds it out. If it cannot be read, no
+        line is written, since the next number depends on it."""
         begun = self.entries.replay
         if begun is None:
             return
-        with suppress(FileNotFoundError):
-            is_done, said = became_of(begun)
-            note(f"a replay was stopped: {said}")
-            keep = self.know if is_read else self.add
-            keep("replayed", is_done=is_done)
+        try:
+            is_done, said = became_of(self.entries)
+        except (OSError, Stop) as error:
+            why = getattr(error, "strerror", None) or error
+            message = f"a replay was stopped, and {begun['desk']} cannot be read to see whether it was done: {why}"
+            if not is_read and not isinstance(error, FileNotFoundError):
+                way = "put a copy of that desk in its place, or move it away"
+                raise Failed(f"nothing was done: {message}; {way}") from None
+            note(message)
+            return
+        note(f"a replay was stopped: {said}")
+        keep = self.know if is_read else self.add
+        keep("replayed", is_done=is_done)
 
     def check_desk(self, path):
         """Refuses the desk with this path where the journal is of another one."""
         desk = self.entries.desk
         if desk is not None and path is not None and desk != path:
-            told = f"nothing was sent: {self.name} is the journal of the desk {desk}, and not of {path}"
-            raise Refused(f"{told}; where the desk has moved, gr-desk journal replay takes the journal there")
-
-
-def became_of(replay):
-    """Whether the copy of a replay that was begun has the place of the desk, and what is said of that. It has where the
-    file is the copy as it was; or else, as where acts came since by another way, where it is the same file, and has all
-    acts of the copy."""
-    desk = replay["desk"]
-    if digest_of(desk) == replay["sha256"]:
-        return True, f"its copy has the place of {desk}, so it is done"
-    is_same = os.stat(desk).st_ino == replay.get("inode")
-    if is_same and read_from(header_in, desk_at(desk), desk).accepted >= replay["count"]:
-        return True, f"its copy has the place of {desk}, so it is done; acts came since by another way"
-    return False, f"its copy does not have the place of {desk}, so nothing was entered"
+            message = f"nothing was sent: {self.name} is the journal of the desk {desk}, and not of {path}"
+            raise Refused(f"{message}; if the desk has moved, gr-desk journal replay takes the journal there")
 
 
 def whole(descriptor):
@@ -132,7 +126,7 @@ def is_half_written(line, is_ended):
     """Whether a stop has cut off this last line. A crash leaves each byte of it, or a zero in its place. What begins
     otherwise is none of a journal."""
     is_cut = not is_ended or b"\0" in line
-    return is_cut and all(told in (wanted, 0) for told, wanted in zip(line, HEAD))
+    return is_cut and all(byte in (wanted, 0) for byte, wanted in zip(line, HEAD))
 
 
 @contextmanager
@@ -161,7 +155,7 @@ def lock(descriptor, kind, name):
     try:
         fcntl.flock(descriptor, kind | fcntl.LOCK_NB)
     except BlockingIOError:
-        note(f"waits for another tool that has {name}")
+        note(f"waiting for another tool that has {name} open")
         fcntl.flock(descriptor, kind)
 
 
@@ -169,7 +163,7 @@ def check_link(name):
     """Refuses a link that another account made: it would say where all ballots are written."""
     with suppress(FileNotFoundError):
         about = os.lstat(name)
-        if stat.S_ISLNK(about.st_mode) and about.st_uid not in (0, os.geteuid()):
+        if stat.S_ISLNK(about.st_mode) and not is_trusted(about):
             raise Refused(f"nothing was done: {name} is a link of another account: name the file itself")
 
 
@@ -178,17 +172,17 @@ def check_private_file(name, about):
     if not stat.S_ISREG(about.st_mode):
         raise Failed(f"{name} is no file")
     if about.st_uid != os.geteuid():
-        told = f"nothing was done: {name} belongs to another account, which could read every ballot there"
-        raise Refused(f"{told}: take a journal of your own, or run this as that account")
+        message = f"nothing was done: {name} belongs to another account, which could read every ballot there"
+        raise Refused(f"{message}: take a journal of your own, or run this as that account")
     if about.st_mode & 0o077:
         raise Refused(f"nothing was done: other accounts may read {name}, which knows every ballot: chmod 600 {name}")
 
 
-def journal_name(words):
+def journal_name(arguments):
     """The name of the journal that the words give, or the environment; None where neither does."""
-    if words.journal == "":
+    if arguments.journal == "":
         raise Wrong("--journal needs the name of a file")
-    return words.journal or os.environ.get("GR_DESK_JOURNAL") or None
+    return arguments.journal or os.environ.get("GR_DESK_JOURNAL") or None
 
 
 def lacks_acts(entries, accepted):
@@ -197,39 +191,39 @@ def lacks_acts(entries, accepted):
     return accepted < entries.last
 
 
-def lacking(words, accepted):
+def lacking(arguments, accepted):
     """The name of the journal of the desk that the words of a tool name, which accepted so many acts, where it lacks
     acts of that; else None. A journal of the environment that is not there, or is of another desk, is passed over."""
-    name, is_meant = journal_name(words), words.journal is not None
+    name, is_meant = journal_name(arguments), arguments.journal is not None
     if name is None or not is_meant and not os.path.exists(name):
         return None
     with journal_at(name, is_read=True) as journal:
         entries = journal.entries
-    if entries.desk in (None, desk_at(words.desk)):
+    if entries.desk in (None, desk_at(arguments.desk)):
         return name if lacks_acts(entries, accepted) else None
     if is_meant:
-        raise Refused(f"{name} is the journal of the desk {entries.desk}, and not of {words.desk}")
+        raise Refused(f"{name} is the journal of the desk {entries.desk}, and not of {arguments.desk}")
     return None
 
 
-def entries_of(words):
+def entries_of(arguments):
     """The acts of the journal of the desk that the words of a tool name, or None where there is none. One of the
     environment that is not there, or is of another desk, is passed over."""
-    if words.desk is None:
-        if words.journal is not None:
+    if arguments.desk is None:
+        if arguments.journal is not None:
             raise Wrong("--journal needs DESK: by a port it is not known of which desk the journal is")
         return None
-    name, is_meant = journal_name(words), words.journal is not None
+    name, is_meant = journal_name(arguments), arguments.journal is not None
     if name is None or not is_meant and not os.path.exists(name):
         if name is not None:
             note(f"warning: {name} of GR_DESK_JOURNAL is not there, so no held act is known")
         return None
     with journal_at(name, is_read=True) as journal:
         entries = journal.entries
-    if entries.desk in (None, desk_at(words.desk)):
+    if entries.desk in (None, desk_at(arguments.desk)):
         return entries
-    told = f"{name} is the journal of the desk {entries.desk}, and not of {words.desk}"
+    message = f"{name} is the journal of the desk {entries.desk}, and not of {arguments.desk}"
     if is_meant:
-        raise Refused(told)
-    note(f"warning: {told}, so no held act is known")
+        raise Refused(message)
+    note(f"warning: {message}, so no held act is known")
     return None

@@ -2,18 +2,17 @@
 was sent to a port is known by the rows of the desk, or from the Secretary, and never by a count."""
 from grdesk.dates import dated
 from grdesk.desk.copy import private_folder
-from grdesk.desk.row import read_from, rows_in
-from grdesk.journal.entry import Fate
-from grdesk.journal.prefix import Comparison
+from grdesk.error import Failed, Refused
+from grdesk.journal.comparison import Comparison
+from grdesk.journal.entry import Fate, UnknownForm, line_of
+from grdesk.journal.listing import tells_of_votes
 from grdesk.journal.replay import way_to_settle
-from grdesk.journal.timeline import tells_of_votes
 from grdesk.output import note
-from grdesk.stop import Failed, Refused
 
 
-def settle(journal, header, desk):
-    """Finds out by the file of the desk whether it has accepted them, keeps that and says so. Else it says how to find
-    out."""
+def settle_open_acts(journal, header, desk):
+    """Finds out by the file of the desk, or by the copy whose sheets are read, whether it has accepted them, keeps that
+    and says so. Else it says how to find out."""
     entries = journal.entries
     if not entries.open:
         return
@@ -23,7 +22,7 @@ def settle(journal, header, desk):
     if taken is None:
         taken = taken_by_moment(entries, header)
     if taken is None:
-        tell(entries)
+        report_open_acts(entries)
         return
     keep_accepted(taken, journal.add)
     for entry in list(entries.open):
@@ -58,9 +57,9 @@ def taken_by_rows(entries, desk):
     """The open acts that the desk has, by number, or None where its rows do not tell: those of no desk that the acts of
     the journal make are the same, or those of several."""
     try:
-        found = read_from(rows_in, desk.path, desk.name)
+        found = desk.rows()
         with private_folder() as folder:
-            made = Comparison.begin(entries, found, folder).made()
+            made = Comparison.begin(entries, found, folder).made_desks()
     except Refused:
         return None
     except Failed as error:
@@ -78,14 +77,14 @@ def keep_accepted(taken, keep):
 
 
 def without_answer(entry):
-    return f"of {entry.number} ({entry.words()}) no answer is kept"
+    return f"the journal has no answer to {entry.number} ({entry.words()})"
 
 
-def tell(entries):
+def report_open_acts(entries):
     """Says which acts are open, and how to find out what became of them."""
     for entry in entries.open:
         when = dated(entry.seconds()[0])
-        note(f"of {entry.number} ({entry.words()}), sent {when}, no answer is kept: the desk may have accepted it")
+        note(f"{without_answer(entry)}, sent {when}: the desk may have accepted it")
     if entries.open:
         note(f"how to find out: {where_seen(entries.open)}; then {way_to_settle(entries.open)}")
 
@@ -98,19 +97,45 @@ def where_seen(unknown):
 
 
 def say_settled(journal, number, is_accepted, count):
-    """Keeps what the Secretary says of an open act: whether the desk has accepted it, and by which number."""
+    """Keeps what the Secretary says of an open act: whether the desk has accepted it, and by which number. It may be
+    said again of one that was open, as long as no replay has entered what was said."""
     entries = journal.entries
     entry = entries.all.get(number)
-    if entry is None or entry.fate is not Fate.OPEN:
-        raise Refused(f"nothing was changed: {number} is no act of which the answer is missing")
-    if not is_accepted:
-        journal.add("found", number=number, count=None)
-        note(f"{number} ({entry.words()}) counts as not accepted{', and is held' if entry.fate is Fate.HELD else ''}")
-        return
-    count = number_of(entries, entry, count)
+    if entry is None or entry.fate is not Fate.OPEN and number not in entries.settled:
+        raise Refused(f"nothing was changed: {number} is not an act whose answer is missing")
+    count = number_said(entries, number, count) if is_accepted else None
+    check_settles(entries, entry, count)
     journal.add("found", number=number, count=count)
-    told = "" if tells_of_votes(entries, count) else f", as number {count} of the acts of the desk"
-    note(f"{number} ({entry.words()}) counts as accepted{told}")
+    entry = journal.entries.all[number]
+    if not is_accepted:
+        held = ", and is on hold" if entry.fate is Fate.HELD else ""
+        note(f"{number} ({entry.words()}) counts as not accepted{held}")
+        return
+    message = "" if tells_of_votes(journal.entries, count) else f", as act {count} of the desk"
+    note(f"{number} ({entry.words()}) counts as accepted{message}")
+
+
+def number_said(entries, number, count):
+    """The number that the desk gave an act, by what is known of it where nothing says what became of it."""
+    entries = entries.unsettled(number)
+    entry = entries.all[number]
+    if entry.fate is not Fate.OPEN:
+        raise Refused(f"nothing was changed: by what the journal has after {number}, the desk has not accepted it")
+    return number_of(entries, entry, count)
+
+
+def check_settles(entries, entry, count):
+    """Refuses what was said of an act before, and what does not go with later lines of the journal."""
+    if entry.fate is Fate.OPEN:
+        return
+    if entry.fate is not Fate.GONE and entries.number_of(entry) == count:
+        message = "not accepted" if count is None else "accepted"
+        raise Refused(f"nothing was changed: {entry.number} counts as {message} already")
+    try:
+        entries.after(line_of("found", number=entry.number, count=count))
+    except UnknownForm:
+        message = "nothing was changed: the journal has lines after it that do not go with that"
+        raise Refused(f"{message}; gr-desk journal list shows what became of {entry.number}") from None
 
 
 def number_of(entries, entry, count):
@@ -118,10 +143,11 @@ def number_of(entries, entry, count):
     free = entries.numbers_for(entry)
     if count is None:
         if free is None or len(free) != 1:
-            told = "nothing was changed: it may have one of several numbers"
-            raise Refused(f"{told}; say which the desk gave it, by --as COUNT: its answer began with `ok COUNT`")
+            message = "nothing was changed: it may have one of several numbers"
+            raise Refused(f"{message}; say which the desk gave it, by --as COUNT: its answer began with `ok COUNT`")
         return free[0]
     if not entries.may_have(entry, count):
-        told = f"nothing was changed: {entry.number} cannot be number {count} of the acts of the desk"
-        raise Refused(f"{told}: another act has that number, or acts that were sent before it or after it have others")
+        message = f"nothing was changed: {entry.number} cannot be act {count} of the desk"
+        why = "another act has that number, or acts that were sent before it or after it have others"
+        raise Refused(f"{message}: {why}")
     return count

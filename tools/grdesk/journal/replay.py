@@ -2,20 +2,19 @@
 answer is compared with the one that was kept."""
 import os
 import re
-import shutil
 from contextlib import suppress
 from dataclasses import dataclass
 from typing import NamedTuple, Optional
 
-from grdesk.desk.copy import log_of, private_folder, sync
+from grdesk.desk.copy import copy_bytes, log_of, private_folder, sync
 from grdesk.desk.digest import digest_of, has_frames
 from grdesk.desk.file import DeskFile
 from grdesk.desk.request import Response, request_of
 from grdesk.desk.row import MOMENTS, VOTING, accepted_in, rows_in
+from grdesk.error import Failed, Refused
 from grdesk.journal.entry import ACCEPTED, Entry
-from grdesk.journal.timeline import running, tells_of_votes
-from grdesk.output import counted
-from grdesk.stop import Failed, Refused
+from grdesk.journal.listing import running_votes, tells_of_votes
+from grdesk.output import counted, note
 
 
 @dataclass
@@ -28,13 +27,13 @@ class Step:
 
     def agrees(self, answer):
         """Whether the desk has answered as it had, but that another act may have been left out before."""
-        told = ACCEPTED.fullmatch(answer.body.decode(errors="replace"))
+        match = ACCEPTED.fullmatch(answer.body.decode(errors="replace"))
         if self.number is None:
-            return bool(told) or 400 <= answer.status < 500
-        if not told or int(told[1]) != self.number:
+            return bool(match) or 400 <= answer.status < 500
+        if not match or int(match[1]) != self.number:
             return False
         kept = ACCEPTED.fullmatch(self.entry.answer or "")
-        return not kept or kept[2] == told[2]
+        return not kept or kept[2] == match[2]
 
     def difference(self, answer, is_secret):
         """What is said where the answers differ: of a vote nothing, and without the counts where these are secret."""
@@ -61,8 +60,8 @@ def left_out(steps, without):
     """The steps but for one act, after which each has a lower number."""
     place = next((place for place, step in enumerate(steps) if step.entry.number == without), None)
     if place is None:
-        told = f"nothing was entered: {without} is none of the acts to enter"
-        raise Refused(f"{told}; where the desk has it, begin with a copy from before it")
+        message = f"nothing was entered: {without} is not one of the acts to enter"
+        raise Refused(f"{message}; if the desk has it, begin with an earlier copy")
     later = [Step(step.entry, step.number and step.number - 1) for step in steps[place + 1 :]]
     return [*steps[:place], *later]
 
@@ -77,25 +76,25 @@ def check_open(entries):
 
 def unanswered(unknown):
     names = ", ".join(entry.number for entry in unknown)
-    return f"of {names} no answer is kept, and nobody can tell which the desk has"
+    return f"the journal has no answer to {names}, and nobody can tell which the desk has"
 
 
 def way_to_settle(unknown):
     number = unknown[0].number if len(unknown) == 1 else "N"
-    return f"say gr-desk journal settle {number} accepted, or settle {number} refused"
+    return f"run gr-desk journal settle {number} accepted, or settle {number} refused"
 
 
 def check_whole(entries, number, last):
     """Refuses where acts after this number, up to the last, came of which the journal knows nothing."""
     if missing := entries.missing(number, last):
-        raise Refused(f"nothing was entered: {in_words(entries, missing)}")
+        raise Refused(f"nothing was entered: {missing_text(entries, missing)}")
 
 
-def in_words(entries, missing, is_secret=False):
+def missing_text(entries, missing, is_secret=False):
     """That acts with these numbers are missing. The numbers are left out where they would tell of a running vote."""
-    told = "acts that came by another way are missing in the journal"
+    message = "acts that came by another way are missing in the journal"
     is_secret = is_secret or tells_of_votes(entries, missing[-1])
-    return told if is_secret else f"{told}, with the numbers {in_ranges(missing)}"
+    return message if is_secret else f"{message}, with the numbers {in_ranges(missing)}"
 
 
 def in_ranges(numbers):
@@ -110,8 +109,8 @@ def in_ranges(numbers):
 
 
 def has_secret(entries, rows):
-    """Whether a vote is running, by the journal or by the rows of a desk, so that no count is told."""
-    return bool(running(entries)) or any(row["stage"] == VOTING for row in rows["resolution"].values())
+    """Whether a vote is running, by the journal or by the rows of a desk, so that no count is shown."""
+    return bool(running_votes(entries)) or any(row["stage"] == VOTING for row in rows["resolution"].values())
 
 
 def lacks_of(journal, desk, rows):
@@ -121,11 +120,11 @@ def lacks_of(journal, desk, rows):
     accepted, kept = accepted_in(rows), entries.last + len(entries.waiting)
     if accepted <= kept:
         return None
-    told = f"{desk} has acts that {journal.name} lacks"
+    message = f"{desk} has acts that {journal.name} lacks"
     if has_secret(entries, rows):
-        return told
+        return message
     numbers = f"{kept + 1}" if accepted == kept + 1 else f"{kept + 1} to {accepted}"
-    return f"{told}, with the numbers {numbers}: the desk has {counted(accepted, 'act')}, and the journal {kept}"
+    return f"{message}, with the numbers {numbers}: the desk has {counted(accepted, 'act')}, and the journal {kept}"
 
 
 class Replay:
@@ -178,7 +177,7 @@ class Replay:
         if second not in tried:
             further = f"{self.copy}.{second}"
             copy_closed(self.copy, further)
-            tried[second] = Tried(further, self.ask(further, step, second))
+            tried[second] = Trial(further, self.ask(further, step, second))
             check_closed(further)
         return step.agrees(tried[second].answer)
 
@@ -194,7 +193,7 @@ class Replay:
         return least if self.is_right(step, least, tried) else first
 
 
-class Tried(NamedTuple):
+class Trial(NamedTuple):
     """A further copy into which an act was entered, and what was answered."""
 
     copy: str
@@ -223,7 +222,7 @@ def copy_closed(desk, to):
     """Copies a desk that nobody has open, and whose log has nothing."""
     check_closed(desk)
     remove_log(to)
-    shutil.copyfile(desk, to)
+    copy_bytes(desk, to)
 
 
 def check_closed(desk):
@@ -263,4 +262,8 @@ def take_place(copy, desk, journal, without, answers, count):
     journal.add("replay", desk=desk.path, without=without, answers=answers, **known)
     os.replace(copy, desk.path)
     sync(os.path.dirname(desk.path))
-    journal.add("replayed", is_done=True)
+    try:
+        journal.add("replayed", is_done=True)
+    except Failed as error:
+        # What is missing there the next tool finds out by the file, and keeps.
+        note(f"warning: the replay is done, and {desk.name} has these acts, but {error}")

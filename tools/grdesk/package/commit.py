@@ -4,8 +4,8 @@ import time
 from functools import lru_cache
 from typing import NamedTuple, Optional
 
+from grdesk.error import Failed
 from grdesk.inventory import TOP
-from grdesk.stop import Failed
 
 SEPARATOR = "\0"
 
@@ -39,24 +39,24 @@ def is_top():
 @lru_cache(maxsize=None)
 def last_commit() -> Optional[Commit]:
     """None where the sources are no clone, or git is not there."""
-    told = git("log", "-1", "--format=%H%x00%ct%x00%an <%ae>") if is_top() else None
-    if not told:
+    text = git("log", "-1", "--format=%H%x00%ct%x00%an <%ae>") if is_top() else None
+    if not text:
         return None
-    digits, moment, author = told.strip().split(SEPARATOR)
+    digits, moment, author = text.strip().split(SEPARATOR)
     return Commit(digits, int(moment), author)
 
 
 def listed(folder):
     """The files of a folder of the sources that belong to a commit, or will."""
-    told = git("ls-files", "--", folder)
-    if not told:
+    text = git("ls-files", "--", folder)
+    if not text:
         raise Failed(f"git lists no file of {folder}")
-    return told.splitlines()
+    return text.splitlines()
 
 
 def changed_since():
     """What differs from the last commit, by the names of the files."""
-    told = git("status", "--porcelain", "--untracked-files=all")
-    if told is None:
+    text = git("status", "--porcelain", "--untracked-files=all")
+    if text is None:
         raise Failed("git does not say what differs from the last commit")
-    return [line[3:] for line in told.splitlines()]
+    return [line[3:] for line in text.splitlines()]

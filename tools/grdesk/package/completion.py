@@ -1,22 +1,23 @@
-"""What completes the words of gr-desk in bash, made of the help texts."""
-import re
-
-OPTION = re.compile("(?<![a-z-])--[a-z][a-z-]*")
-FIELD = re.compile("[a-z]+=(?= |$)")
+"""What completes the words of gr-desk in bash, made of the parsers of its tools."""
 
 SCRIPT = """\
-# Completes the words of gr-desk in bash. It is made of the help texts of the program and of the tools.
+# Completes the words of gr-desk in bash. It is made of the parsers of the tools, and of the help of the program.
 _gr_desk() {
-    local current=${COMP_WORDS[COMP_CWORD]} tool=${COMP_WORDS[1]} words= word
+    local current=${COMP_WORDS[COMP_CWORD]} before=${COMP_WORDS[COMP_CWORD-1]} tool=${COMP_WORDS[1]} words= word
+    COMPREPLY=()
     if [ "$COMP_CWORD" -eq 1 ]; then
         words="NAMES"
     else
+        # After an option with a value comes that, which may be a file.
+        case "$tool $before" in
+VALUES
+        esac
         case $tool in
 TOOLS
         esac
         for word in "${COMP_WORDS[@]:2:COMP_CWORD-2}"; do
             case "$tool $word" in
-FIELDS
+COMMANDS
             esac
         done
     fi
@@ -27,19 +28,13 @@ complete -o default -F _gr_desk gr-desk
 """
 
 
-def own_options(tool):
-    """The options of a tool, without those of other programs of which its help speaks."""
-    others = rf"gr-desk (?!{tool.words[-1]}\b)[a-z_]+((?: or)? --[a-z-]+)+|`(?!gr-desk )[a-z]+ [^`]*`"
-    text = re.sub(others, "", " ".join(tool.text.split()))
-    return sorted({*OPTION.findall(text), "--help"})
+def options_of(parser):
+    return [name for each in parser.own_actions() for name in each.option_strings if name.startswith("--")]
 
 
-def first_words(tool):
-    """What may stand first after the name of a tool, with the fields that it needs: in a line of its words, or at the
-    head of a line of a table."""
-    name = tool.words[-1]
-    lines = re.findall(rf"^    (?:gr-desk {name} )?([a-z]+)(?= [A-Z]| ?\[|  |$)(.*)$", tool.text, re.MULTILINE)
-    return {word: FIELD.findall(more) for word, more in lines}
+def fields_of(parser):
+    """The arguments that begin with what is typed, such as `login=`."""
+    return [each.dest for each in parser.own_actions() if each.dest.endswith("=")]
 
 
 def arm(indent, what, words):
@@ -47,15 +42,35 @@ def arm(indent, what, words):
     return f'{" " * indent}"{what}") words+=" {" ".join(words)}" ;;'
 
 
-def completion(program, tools):
-    """The script by which bash completes the words of gr-desk: the name of a tool or subcommand, its options, the words
-    that it takes first, and the fields of an act. Where none of these fits, bash completes the name of a file."""
-    tools = tools[1:]
-    called = [*program[1:], *tools]
-    firsts = {tool.words[-1]: first_words(tool) for tool in tools}
-    arms = [arm(8, tool.words[-1], [*own_options(tool), *firsts.get(tool.words[-1], ())]) for tool in called]
-    fields = [
-        arm(12, f"{name} {word}", wanted) for name, words in firsts.items() for word, wanted in words.items() if wanted
+def name_of(parser):
+    return parser.prog.split()[-1]
+
+
+def values_of(parsers):
+    """The lines for options with a value: bash completes the name of a file there."""
+    for parser in parsers:
+        for each in (parser, *parser.subcommands.values()):
+            for action in each.own_actions():
+                if action.option_strings and action.nargs != 0:
+                    yield f'            "{name_of(parser)} {action.option_strings[-1]}") return ;;'
+
+
+def completion(program, examples, parsers):
+    """The script by which bash completes the words of gr-desk: the name of a tool or subcommand, its options, its
+    commands, and the options and fields of these. Where none of them fits, bash completes the name of a file. `program`
+    and `examples` are the help of the program's subcommands and of the examples, which have no parser."""
+    tools = [arm(8, name_of(each), [*options_of(each), *each.subcommands]) for each in parsers]
+    tools += [arm(8, each.words[-1], sorted({*each.options(), "--help"})) for each in (*program, *examples)]
+    subcommands = [each.words[-1] for each in program]
+    tools.append(arm(8, "help", subcommands))
+    commands = [
+        arm(12, f"{name_of(each)} {name}", words)
+        for each in parsers
+        for name, command in each.subcommands.items()
+        if (words := [*options_of(command)[1:], *fields_of(command)])
     ]
-    names = " ".join(sorted([*(tool.words[-1] for tool in called), "help"]))
-    return SCRIPT.replace("NAMES", names).replace("TOOLS", "\n".join(arms)).replace("FIELDS", "\n".join(fields))
+    called = [*map(name_of, parsers), *subcommands, *(each.words[-1] for each in examples), "help"]
+    names = " ".join(sorted(called))
+    values = "\n".join(sorted(set(values_of(parsers))))
+    script = SCRIPT.replace("NAMES", names).replace("VALUES", values)
+    return script.replace("TOOLS", "\n".join(tools)).replace("COMMANDS", "\n".join(commands))

@@ -5,13 +5,10 @@ import re
 from pathlib import Path
 
 from grdesk.desk.program import program
+from grdesk.error import Failed
 from grdesk.inventory import TOP, files
 from grdesk.package.archive import LINK_MODE, PackedFile, zipped
 from grdesk.package.commit import listed
-from grdesk.package.completion import completion
-from grdesk.package.help_text import help_of_program, help_of_tools
-from grdesk.package.man_page import pages
-from grdesk.stop import Failed
 
 NAME = "gr-desk"
 HOME = f"usr/lib/{NAME}"
@@ -77,19 +74,20 @@ def settings():
         yield PackedFile(path, data=read(OURS / name))
 
 
-def helps():
-    """The man pages, and what completes words in bash."""
-    of_program, of_tools = help_of_program(), help_of_tools()
-    for name, source in pages(of_program, of_tools).items():
-        yield PackedFile(f"usr/share/man/man1/{name}.gz", data=zipped(source))
-    script = completion(of_program, of_tools).encode()
-    yield PackedFile(f"usr/share/bash-completion/completions/{NAME}", data=script)
+def helps(made):
+    """The man pages, and what completes words in bash, as gr-desk manual makes them."""
+    for name, source in made.items():
+        folder, _, file = name.rpartition("/")
+        if folder == "completion":
+            yield PackedFile(f"usr/share/bash-completion/completions/{file}", data=source)
+        else:
+            yield PackedFile(f"usr/share/{name}.gz", data=zipped(source))
 
 
-def contents():
-    """All entries but those that name the version."""
+def contents(made):
+    """All entries but those that name the version. `made` are the pages and the completion."""
     run = tools()
-    return [*run, *documents({entry.path for entry in run}), *settings(), *helps()]
+    return [*run, *documents({entry.path for entry in run}), *settings(), *helps(made)]
 
 
 def units_by_name():

@@ -4,10 +4,10 @@ import re
 import textwrap
 from email.utils import formatdate
 
+from grdesk.error import Failed
 from grdesk.inventory import TOP
 from grdesk.package.archive import PackedFile, zipped
 from grdesk.package.contents import DOCS, NAME, OURS, read, units_by_name
-from grdesk.stop import Failed
 
 # What the libraries that a program may need are called as packages, and the names of the versions of their symbols.
 LIBRARIES = {

@@ -2,7 +2,7 @@
 import struct
 from typing import NamedTuple
 
-from grdesk.stop import Failed
+from grdesk.error import Failed
 
 # By their numbers in the file, under the names that Debian has for them.
 ARCHITECTURES = {62: "amd64", 183: "arm64"}

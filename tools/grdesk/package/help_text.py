@@ -1,15 +1,11 @@
-"""The help texts of the program and of the tools, of which the man pages and the completion are made."""
+"""The help of the program and of the examples, which have no parser here. Their man pages are made of it."""
 import os
-import re
 import subprocess
 from typing import NamedTuple
 
 from grdesk.desk.program import program
-from grdesk.inventory import TOP, laid_down
-from grdesk.stop import Failed
-
-# The command, which runs whatever is installed.
-COMMAND = TOP / "tools" / "gr-desk"
+from grdesk.error import Failed
+from grdesk.inventory import EXAMPLES, examples
 
 
 class Help(NamedTuple):
@@ -23,13 +19,18 @@ class Help(NamedTuple):
         """As its man page is called."""
         return "-".join(self.words)
 
+    def options(self):
+        """The options whose lines the help has."""
+        lines = (line.replace(",", " ").split() for line in self.text.split("\n") if line.lstrip().startswith("-"))
+        return [word for words in lines for word in words[:2] if word.startswith("--")]
+
 
 def text_of(path, *words):
     """A help text, without white space at its ends."""
     line = [str(path), *words, "--help"]
+    # A text is the same in each language, and however wide a terminal is.
+    settled = {name: value for name, value in os.environ.items() if name not in ("COLUMNS", "LINES")}
     try:
-        # A text is the same in each language, and however wide a terminal is.
-        settled = {name: value for name, value in os.environ.items() if name not in ("COLUMNS", "LINES")}
         ran = subprocess.run(
             line, stdin=subprocess.DEVNULL, capture_output=True, check=False, env={**settled, "LC_ALL": "C.UTF-8"}
         )
@@ -42,8 +43,8 @@ def text_of(path, *words):
 
 def subcommands_in(text):
     """The names that the help of the program lists below its commands."""
-    block = re.search(r"^Commands:\n((?:  .*\n)+)", text + "\n", re.MULTILINE)
-    names = re.findall(r"^  ([a-z]+) ", block[1] if block else "", re.MULTILINE)
+    block = text.partition("\nCommands:\n")[2].partition("\n\n")[0]
+    names = [line.split()[0] for line in block.split("\n") if line.startswith("  ") and not line.startswith("   ")]
     if not names:
         raise Failed("the help of the program lists no subcommand")
     return [name for name in names if name != "help"]
@@ -55,7 +56,6 @@ def help_of_program():
     return [main, *(Help(("gr_desk", name), text_of(program(), name)) for name in subcommands_in(main.text))]
 
 
-def help_of_tools():
-    """The help of the command, and after it that of each tool that it runs."""
-    tools = (Help(("gr-desk", name), text_of(COMMAND, name)) for name in sorted(laid_down()))
-    return [Help(("gr-desk",), text_of(COMMAND)), *tools]
+def help_of_examples():
+    """The help of each example that is installed as a tool is."""
+    return [Help(("gr-desk", name), text_of(examples()[name])) for name in EXAMPLES]

@@ -1,8 +1,8 @@
 """The version of the desk, which one file says."""
 import re
 
+from grdesk.error import Failed
 from grdesk.inventory import TOP
-from grdesk.stop import Failed
 
 FILE = TOP / "VERSION"
 

@@ -1,11 +1,11 @@
 """A closed vote, as its tally and its result tell it. Nothing is counted here: each number stands in one of the two."""
 from typing import NamedTuple, Optional
 
-from grdesk.desk.sheet import NUMBER, TIME, Lines, outcome_in
-from grdesk.stop import Failed
+from grdesk.desk.sheet import NUMBER, TIME, SheetLines, outcome_in
+from grdesk.error import Failed
 
 
-class Test(NamedTuple):
+class OptionTest(NamedTuple):
     """What the tests of an option came to, in the words of the result."""
 
     above: int
@@ -16,7 +16,7 @@ class Test(NamedTuple):
     verdict: str
 
 
-class Vote(NamedTuple):
+class ClosedVote(NamedTuple):
     """A vote. Options are known by their places; the last one has that of the default option."""
 
     number: int
@@ -36,7 +36,7 @@ class Vote(NamedTuple):
     # How many votes were accepted, replaced ones too. A desk of version 1 did not count them.
     received: Optional[int]
 
-    def kept(self):
+    def kept_options(self):
         return [place for place in self.options if place not in self.tests or self.tests[place].verdict == "kept"]
 
     def defeats(self):
@@ -58,7 +58,7 @@ def received_of(lines, least):
 
 
 def test_of(line):
-    return Test(*map(int, line.groups()[1:4]), *line.groups()[4:])
+    return OptionTest(*map(int, line.groups()[1:4]), *line.groups()[4:])
 
 
 def preferred_of(lines):
@@ -75,7 +75,7 @@ def rounds_of(lines, preferred):
     for line in lines.all(f"Round {NUMBER}: drop (.+)"):
         defeats = []
         for defeat in line[2].split(", "):
-            found = Lines("the result", f"{defeat}\n").take(f"{NUMBER}>{NUMBER} {NUMBER}:{NUMBER}")
+            found = SheetLines("the result", f"{defeat}\n").take(f"{NUMBER}>{NUMBER} {NUMBER}:{NUMBER}")
             a, b, count, other = map(int, found.groups())
             if (preferred.get((a, b)), preferred.get((b, a))) != (count, other):
                 raise Failed(f"round {line[1]} of the result has another count of {a} and {b} than their pair")
@@ -86,14 +86,14 @@ def rounds_of(lines, preferred):
 
 def vote_of(number, tally, result):
     """The vote of these two sheets, which have to agree."""
-    lines = Lines(f"the tally of resolution {number}", tally)
+    lines = SheetLines(f"the tally of resolution {number}", tally)
     lines.take(f"Tally of resolution {number}")
     options_of_tally = options_of(lines)
     count_of_tally = int(lines.take(f"Ballots: {NUMBER}")[1])
     ballots = [(line[1], line[2]) for line in lines.all("V: ([1-9a-z-]+) ([0-9a-f]{64})")]
     lines.end()
 
-    lines = Lines(f"the result of resolution {number}", result)
+    lines = SheetLines(f"the result of resolution {number}", result)
     lines.take(f"Result of resolution {number}")
     voting = lines.take(f"Voting: ({TIME} to {TIME})")[1]
     developers = int(lines.take(f"Developers: {NUMBER}")[1])
@@ -116,4 +116,4 @@ def vote_of(number, tally, result):
     if not named <= kept or winner not in (None, *outcome):
         raise Failed("the result names an option that it does not have, so what answers is no desk")
     shown = tests, preferred, rounds, outcome, last[0], winner, ballots, received
-    return Vote(number, voting, developers, options, *shown)
+    return ClosedVote(number, voting, developers, options, *shown)

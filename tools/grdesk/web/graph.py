@@ -28,7 +28,7 @@ def width_of(text, size):
 
 def drawing(vote):
     """The drawing with its text."""
-    places = vote.kept()
+    places = vote.kept_options()
     if len(places) == 1:
         return paragraph("No option but the default one was kept, so there is no defeat.")
     return Drawing(vote, places).text()
@@ -65,18 +65,18 @@ class Drawing:
             lines += filter(None, map(self.counts, self.defeats))
         for index, place in enumerate(self.places):
             lines += self.node(place, index)
-        told = "An arrow leads from the option that defeats to the one that is defeated. Two with no arrow are level. "
-        told += "A dashed one was dropped in a round. The members of the outcome have a thick ring."
-        return "\n".join([paragraph(told), '<div class="wide">', *lines, "</svg>", "</div>", self.words()])
+        message = "An arrow leads from the option that defeats to the one that is defeated. Two with no arrow are"
+        message += " level. A dashed one was dropped in a round. The members of the outcome have a thick ring."
+        return "\n".join([paragraph(message), '<div class="wide">', *lines, "</svg>", "</div>", self.words()])
 
     def words(self):
         """Each defeat in words."""
         if not self.defeats:
             return paragraph("No option defeats another one.", id="defeats")
-        items = (cell(self.told(pair, isolated), "li") for pair in self.defeats)
+        items = (cell(self.sentence(pair, isolated), "li") for pair in self.defeats)
         return cell("\n".join(["", *items, ""]), "ul", id="defeats")
 
-    def told(self, pair, named):
+    def sentence(self, pair, named):
         a, b = (f"{place} {named(self.vote.options[place])}" for place in pair)
         number = self.defeats[pair]
         return f"{a} defeats {b}, {self.counts_in(pair)}" + (f"; dropped in round {number}" if number else "")
@@ -92,8 +92,8 @@ class Drawing:
         x1, y1, x2, y2 = ax + dx * NODE, ay + dy * NODE, bx - dx * (NODE + 3), by - dy * (NODE + 3)
         kind, end = ("edge gone", "gone-arrow") if self.defeats[pair] else ("edge", "arrow")
         ends = f'x1="{x1:.1f}" y1="{y1:.1f}" x2="{x2:.1f}" y2="{y2:.1f}" marker-end="url(#{end})"'
-        told = self.told(pair, alone)
-        return f'<line id="defeat-{pair[0]}-{pair[1]}" class="{kind}" {ends}><title>{told}</title></line>'
+        message = self.sentence(pair, alone)
+        return f'<line id="defeat-{pair[0]}-{pair[1]}" class="{kind}" {ends}><title>{message}</title></line>'
 
     def counts(self, pair):
         """The counts of a defeat, at the first place on its arrow where they meet nothing. None: there is none."""

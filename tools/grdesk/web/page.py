@@ -53,5 +53,5 @@ class Pages:
         span = status.voting or status.discussion
         if span and self.at < span[0]:
             what = f"{'voting' if status.voting else 'discussion'} of resolution {status.number}"
-            told = f"{what} began {date_of(span[0])}, after {date_of(self.at)}"
-            note(f"warning: {told}; its page tells how it is now")
+            message = f"{what} began {date_of(span[0])}, after {date_of(self.at)}"
+            note(f"warning: {message}; its page tells how it is now")

@@ -2,8 +2,8 @@
 reported."""
 import hashlib
 
-from grdesk.acts.explanation import LETTERS
 from grdesk.desk.quorum import quorum_of
+from grdesk.desk.rank import LETTERS
 from grdesk.web.graph import drawing
 from grdesk.web.html import cell, isolated, paragraph, table
 from grdesk.web.matrix import matrix
@@ -31,22 +31,22 @@ def winner(vote):
     """The last line of the result, as a sentence."""
     members = [option(vote, place) for place in vote.outcome]
     if vote.winner is None:
-        told = f"There is no winner yet. The casting vote chooses among {', '.join(members[:-1])} and {members[-1]}"
+        message = f"There is no winner yet. The casting vote chooses among {', '.join(members[:-1])} and {members[-1]}"
     else:
-        told = f"The winner is {option(vote, vote.winner)}"
-        told += ", by the casting vote" if vote.last.endswith("by casting vote") else ""
+        message = f"The winner is {option(vote, vote.winner)}"
+        message += ", by the casting vote" if vote.last.endswith("by casting vote") else ""
     set_of = f'Outcome (the Schwartz set after the last round): <span id="outcome">{", ".join(members)}</span>.'
-    return paragraph(f'<span id="last">{told}</span>.', class_="winner") + "\n" + paragraph(set_of)
+    return paragraph(f'<span id="last">{message}</span>.', class_="winner") + "\n" + paragraph(set_of)
 
 
 def facts(vote):
     quorum = quorum_of(vote.developers)
-    told = f'Ballots: <span id="ballots">{len(vote.ballots)}</span>.'
+    message = f'Ballots: <span id="ballots">{len(vote.ballots)}</span>.'
     if vote.received is not None:
-        told += f' Received, with those that were replaced: <span id="received">{vote.received}</span>.'
-    told += f' Developers who were current at the call: <span id="developers">{vote.developers}</span>, so that Q is '
-    told += f'<span id="q">{quorum.q}</span> and the quorum 3Q is <span id="three-q">{quorum.three_q}</span>, '
-    return paragraph(f"{told}which {quorum.votes} votes meet (Constitution, 4.2.4 and 4.2.7).")
+        message += f' Received, with those that were replaced: <span id="received">{vote.received}</span>.'
+    message += f' Developers who were current at the call: <span id="developers">{vote.developers}</span>, so that Q'
+    message += f' is <span id="q">{quorum.q}</span> and the quorum 3Q is <span id="three-q">{quorum.three_q}</span>, '
+    return paragraph(f"{message}which {quorum.votes} votes meet (Constitution, 4.2.4 and 4.2.7).")
 
 
 def options(vote):
@@ -83,9 +83,9 @@ def rounds(vote):
 def ballots(vote):
     rows = [cell(cell(ranks) + cell(receipt), "tr", class_="ballot") for ranks, receipt in vote.ballots]
     caption = "Each ballot: a rank for each place, - for none, and the receipt by which its voter finds it"
-    told = "A voter makes the receipt again from the resolution, the login and the token, and so finds the ballot. In"
-    told += f" the ranks {LETTERS}."
-    return "\n".join([table(caption, ["Ranks", "Receipt"], rows, "ballots"), paragraph(told)])
+    message = "A voter makes the receipt again from the resolution, the login and the token, and so finds the ballot."
+    message += f" In the ranks {LETTERS}."
+    return "\n".join([table(caption, ["Ranks", "Receipt"], rows, "ballots"), paragraph(message)])
 
 
 def digests(tally, result):
@@ -93,5 +93,6 @@ def digests(tally, result):
     for name, text in ("tally", tally), ("result", result):
         digest = hashlib.sha256(text.encode()).hexdigest()
         rows.append(cell(cell(name, "th", scope="row") + cell(digest, class_="digest"), "tr", id=f"sha256-{name}"))
-    told = "Whoever has the tally and the result can count again. All numbers of this page are theirs, or made of them."
-    return "\n".join([paragraph(told), table("The SHA-256 of both sheets", ["Sheet", "SHA-256"], rows)])
+    message = "Whoever has the tally and the result can count again. All numbers of this page are theirs, or made of"
+    message += " them."
+    return "\n".join([paragraph(message), table("The SHA-256 of both sheets", ["Sheet", "SHA-256"], rows)])

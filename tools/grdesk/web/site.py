@@ -8,9 +8,9 @@ from grdesk.ballots.electorate import electorate_of
 from grdesk.ballots.form import form_of
 from grdesk.ballots.outbox import check_apart
 from grdesk.dates import date_of
-from grdesk.new_file import Folder, Readers, check_unshared, make_folder
+from grdesk.error import Failed, Refused
+from grdesk.new_file import Folder, Readers, check_unshared, is_trusted, make_folder
 from grdesk.output import counted, note, shown
-from grdesk.stop import Failed, Refused
 from grdesk.web.html import cell, document, isolated, paragraph, table
 from grdesk.web.stage import STAGES
 
@@ -49,7 +49,7 @@ def public_folder(folder):
     """The folder under this name, which is made if it is not there. A link is followed if this account or root made it.
     One that others can write is refused: they would say what is published, or where it is written."""
     path = os.path.abspath(folder)
-    if os.path.islink(path) and os.lstat(path).st_uid not in (0, os.geteuid()):
+    if os.path.islink(path) and not is_trusted(os.lstat(path)):
         raise Refused(f"{NOTHING}: {folder} is a link of another account: name the folder itself")
     place = os.path.realpath(path)
     make_folder(place, Readers.ALL)
@@ -110,10 +110,10 @@ def index(pages, written):
         links = ", ".join(link(name) for name in written[status.number])
         cells = cell(status.number, "th", scope="row") + cell(isolated(pages.stage(status).summary))
         rows.append(cell(cells + cell(STAGES[status.stage][0]) + cell(ends) + cell(links), "tr"))
-    told = f"As of {date_of(pages.at)}. All times are in UTC."
+    message = f"As of {date_of(pages.at)}. All times are in UTC."
     head = ["Resolution", "First choice", "Stage", "Discussion or voting ends", "Files"]
     body = table("The resolutions", head, rows) if rows else paragraph("There is no resolution yet.")
-    return document("Resolutions", "Resolutions", [paragraph(told), body])
+    return document("Resolutions", "Resolutions", [paragraph(message), body])
 
 
 def link(name):

@@ -3,13 +3,12 @@ was amended. Nothing of a ballot is in it, nor the desk's clock, nor how many ac
 from dataclasses import dataclass
 from typing import Optional
 
-from grdesk.acts.explanation import DEFAULT_OPTION
 from grdesk.ballots.form import placed_in, title_of
 from grdesk.dates import date_of
-from grdesk.desk.limit import REMEDY
 from grdesk.desk.quorum import sponsors_wanted
+from grdesk.desk.rank import DEFAULT_OPTION
 from grdesk.desk.sheet import Status
-from grdesk.journal.timeline import choice_in, moment_text
+from grdesk.journal.listing import choice_in, moment_text
 from grdesk.output import counted
 from grdesk.web.html import cell, document, isolated, paragraph, table, text_block
 
@@ -49,11 +48,11 @@ class Stage:
         return ["<h2>Times</h2>", self.times(), "<h2>Choices</h2>", *self.choices(), *self.amendments()]
 
     def head(self):
-        told, over = STAGES[self.status.stage]
+        description, over = STAGES[self.status.stage]
         span = self.status.voting or self.status.discussion
-        told = over if over and self.at >= span[1] else told
+        description = over if over and self.at >= span[1] else description
         as_of = "" if self.status.stage in ("Closed", "Cancelled") else f" As of {date_of(self.at)}."
-        return paragraph(f'<span id="stage">{told}</span>{as_of}')
+        return paragraph(f'<span id="stage">{description}</span>{as_of}')
 
     def times(self):
         rows = []
@@ -106,8 +105,8 @@ class Stage:
 
     def facts(self, choice):
         """Who stands behind a choice, and whether it is live."""
-        if choice.proposer.startswith("developer "):
-            yield f"Proposed by {self.named(choice.proposer.removeprefix('developer '))}."
+        if choice.developer is not None:
+            yield f"Proposed by {self.named(choice.developer)}."
         else:
             yield "Nobody proposes it." if choice.proposer == "none" else f"Proposed by the {choice.proposer}."
         if choice.sponsors:
@@ -121,7 +120,7 @@ class Stage:
         else:
             yield f"Introduced {date_of(choice.introduced)}."
         if choice.short is not None and not choice.place:
-            lapse = choice.short + REMEDY
+            lapse = choice.lapse
             end = f"has lapsed {date_of(lapse)}" if self.at >= lapse else f"lapses {date_of(lapse)} if that stays so"
             since = date_of(choice.short)
             yield f"It is short of a proposer or of sponsors since {since}, and {end} (Constitution, A.2.3)."
@@ -155,8 +154,8 @@ class Stage:
         kind = "a minor" if entry.fields["minor"] == "1" else "a substantial"
         paragraphs = "A.1.5" if kind == "a minor" else "A.1.3"
         name = self.name(self.status.choices[int(choice) - 1])
-        told = f"{name} got {kind} amendment {moment_text(entry).split(' (')[0]} (Constitution, {paragraphs})"
-        return paragraph(f"{told}, and is now {isolated(entry.fields['summary'])}. Before, it was:")
+        message = f"{name} got {kind} amendment {moment_text(entry).split(' (')[0]} (Constitution, {paragraphs})"
+        return paragraph(f"{message}, and is now {isolated(entry.fields['summary'])}. Before, it was:")
 
 
 def text_lines(fields):

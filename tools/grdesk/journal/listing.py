@@ -11,7 +11,7 @@ from grdesk.journal.source import source_text
 from grdesk.output import counted, shown
 
 
-def running(entries):
+def running_votes(entries):
     """The resolutions that are in voting, as far as the journal says. One whose call or whose votes may have been
     accepted is taken for one."""
     found = set()
@@ -35,11 +35,11 @@ def in_order(entries):
 def tells_of_votes(entries, number):
     """Whether the number that the desk gave an act would tell of a running vote how many ballots came."""
     calls = {entry.resolution: of_call for of_call, entry in entries.accepted.items() if entry.act == "call"}
-    return any(number > calls.get(resolution, 0) for resolution in running(entries))
+    return any(number > calls.get(resolution, 0) for resolution in running_votes(entries))
 
 
 def closed(entries):
-    return {entry.resolution for entry in entries.accepted.values() if entry.act == "close"} - running(entries)
+    return {entry.resolution for entry in entries.accepted.values() if entry.act == "close"} - running_votes(entries)
 
 
 def moment_text(entry):
@@ -57,7 +57,7 @@ class Listing:
         self.entries = entries
         # The number that the desk has now of each act: where one was left out, those after it have lower ones.
         self.numbers = {entry.number: number for number, entry in entries.accepted.items()}
-        self.running = running(entries)
+        self.running = running_votes(entries)
         self.closed = closed(entries)
 
     def lines(self, resolution=None):
@@ -69,12 +69,12 @@ class Listing:
                 if resolution is not None:
                     yield from texts.lines(entry)
         if self.running:
-            told = ", ".join(sorted(self.running, key=int))
-            yield f"Votes and counts are left out, since resolution {told} is in voting, or may be."
+            names = ", ".join(sorted(self.running, key=int))
+            yield f"Votes and counts are left out, since resolution {names} is in voting, or may be."
 
     def act(self, entry):
         """An act, what became of it, and where it came from."""
-        words = entry.words() + (f", {counted(rows_in(entry), 'row')}" if ROLL in entry.fields else "")
+        words = entry.words() + (f", {counted(count_of_rows(entry), 'row')}" if ROLL in entry.fields else "")
         yield f"{entry.number:>4}  {moment_text(entry)}  {words}"
         yield f"      {self.fate(entry)}"
         if entry.source:
@@ -100,7 +100,7 @@ class Listing:
         return ", ".join(f"{day} {days[day]}" for day in sorted(days)) or "none"
 
 
-def rows_in(entry):
+def count_of_rows(entry):
     """How many lines a roll file has after its first one. A name may have what a text of Python ends at."""
     return max(0, len(entry.fields[ROLL].encode(errors="surrogateescape").splitlines()) - 1)
 

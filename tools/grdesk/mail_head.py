@@ -7,8 +7,8 @@ from email.utils import parsedate_to_datetime
 from itertools import islice
 from typing import NamedTuple, Optional
 
+from grdesk.error import NotRead
 from grdesk.output import quoted
-from grdesk.stop import NotRead
 
 # Lines end at LF alone, and a CR before it is no part of one.
 EMPTY_LINE = re.compile(rb"^\r?\n", re.M)
@@ -255,15 +255,27 @@ def addresses_in(text):
     for begin, piece in pieces:
         said, is_whole = found[-1]
         if begin == "<":
-            found[-1] = piece[1:-1], True
+            # What stands before it is a name, unless that is an address in brackets too.
+            if not is_whole:
+                found.pop()
+            found.append((piece[1:-1], True))
         elif begin == '"' and not is_whole:
             found[-1] = said + piece, False
         elif not begin:
             first, *others = re.split("[,;:]", piece)
-            found[-1] = (said, True) if is_whole else (said + first, False)
+            if is_whole:
+                found.append((first, False))
+            else:
+                found[-1] = said + first, False
             found += [(each, False) for each in others]
-    bare = (re.sub(r'["\\]', "", said).strip(" \t").lower() for said, _ in found)
-    return [each for each in bare if "@" in each]
+    return [each for each in map(bare_address, (said for said, _ in found)) if "@" in each]
+
+
+def bare_address(text):
+    """An address in small letters, without quotes, comments, blanks at its ends and about its @, and without the route
+    that some programs put before one."""
+    text = re.sub(r'["\\]|\([^()]*\)', "", text).lower()
+    return re.sub("^@[^:]*:", "", "@".join(part.strip(" \t") for part in text.split("@")))
 
 
 # Charsets.

@@ -23,5 +23,13 @@ class Failed(Stop):
     """Something failed."""
 
 
+class Unsent(Failed):
+    """An act was not sent, and `why`. Whoever sent others before it says so, and does not print this as it is."""
+
+    def __init__(self, why):
+        super().__init__(f"nothing was sent: {why}")
+        self.why = str(why)
+
+
 class NotRead(Exception):
     """Why a form is not read, as a sentence without its end."""

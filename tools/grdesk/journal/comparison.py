@@ -11,21 +11,21 @@ from grdesk.desk.digest import check_digests
 from grdesk.desk.file import DeskFile
 from grdesk.desk.program import program
 from grdesk.desk.row import VOTING, accepted_in, differences, header_in, rows_in
+from grdesk.error import Failed, Refused
 from grdesk.journal.entry import Entries
+from grdesk.journal.listing import running_votes
 from grdesk.journal.replay import (
     Replay,
     Step,
     close_by_roll,
     copy_closed,
     has_secret,
-    in_words,
+    missing_text,
     read_closed,
     unanswered,
     way_to_settle,
 )
-from grdesk.journal.timeline import running
 from grdesk.output import shown
-from grdesk.stop import Failed, Refused
 
 # In how many ways it is tried which open acts have the numbers of which no act is known.
 MOST_WAYS = 16
@@ -33,7 +33,7 @@ MOST_WAYS = 16
 MOST_NAMED = 3
 
 
-class Made(NamedTuple):
+class MadeDesk(NamedTuple):
     """A desk that was made: which open acts are among its acts, by number, its file, and a line for each difference
     between its rows and those of the desk that was found."""
 
@@ -76,7 +76,7 @@ class Comparison:
         clock = next(iter(self.found["desk"].values()), {}).get("clock")
         return clock if isinstance(clock, int) else None
 
-    def made(self):
+    def made_desks(self):
         """The desks that the acts make up to the number of the last one of the desk: one for each way in which open
         acts may be among them, and none where an answer differs from the one that is kept. Where no act is open, such
         a difference is refused."""
@@ -85,7 +85,7 @@ class Comparison:
             return []
         self.enter_known()
         if ways == [{}]:
-            return [Made({}, self.begun, self.differences_to(self.begun))]
+            return [MadeDesk({}, self.begun, self.differences_to(self.begun))]
         return [made for number, taken in enumerate(ways) if (made := self.made_with(taken, number))]
 
     def ways(self):
@@ -120,7 +120,7 @@ class Comparison:
             self.enter(file, taken, self.missing[0] - 1, self.accepted)
         except Refused:
             return None
-        return Made(taken, file, self.differences_to(file))
+        return MadeDesk(taken, file, self.differences_to(file))
 
     def enter(self, file, taken, after, last):
         """Enters the acts with the numbers after this one up to the last into a desk."""
@@ -146,7 +146,7 @@ class Comparison:
             yield [self.clock] if is_last else range(earliest, end + 1) or span
 
     def differences_to(self, file):
-        return told_differences(self.entries, self.found, read_closed(rows_in, file, "the desk that was made"))
+        return public_differences(self.entries, self.found, read_closed(rows_in, file, "the desk that was made"))
 
 
 def taken_of(comparison, journal, desk, from_copy):
@@ -154,7 +154,7 @@ def taken_of(comparison, journal, desk, from_copy):
     rows are not those of the first acts of the journal, and one of which nobody can tell."""
     if comparison.first > comparison.accepted:
         raise Refused(f"nothing was entered: {from_copy} has more acts than {desk}; give an earlier copy of it")
-    made = comparison.made()
+    made = comparison.made_desks()
     same = [each.taken for each in made if not each.differences]
     if len(same) == 1:
         return same[0]
@@ -163,35 +163,35 @@ def taken_of(comparison, journal, desk, from_copy):
         raise Refused(f"nothing was entered: {unanswered(entries.open)}; {way_to_settle(entries.open)}")
     if made:
         raise Refused(f"nothing was entered: {no_copy(made[0], journal, desk)}")
-    missing = in_words(entries, comparison.missing, has_secret(entries, comparison.found))
+    missing = missing_text(entries, comparison.missing, has_secret(entries, comparison.found))
     way = "another --from, a later copy" if from_copy else "--from COPY, an earlier copy of it"
-    told = f"nothing was entered: {missing}, so that it cannot be seen whether {desk} is the desk of the journal"
-    raise Refused(f"{told}; {way} that has them, shows it")
+    message = f"nothing was entered: {missing}, so nobody can see whether {desk} is the desk of the journal"
+    raise Refused(f"{message}; {way} that has them, shows it")
 
 
 def no_copy(made, journal, desk):
     """That a desk has other rows than the one that was made, which of them, and what to do."""
     named = "; ".join(map(shown, made.differences[:MOST_NAMED]))
     more = "; and more" if made.differences[MOST_NAMED:] else ""
-    told = f"{desk} is no copy of the desk of {journal}, since the first acts there make other rows: {named}{more}"
+    message = f"{desk} is no copy of the desk of {journal}, since the first acts there make other rows: {named}{more}"
     why = "an act came to it by another way, or a bit turned in it: gr-desk journal check says more"
-    return f"{told}. Put a copy of that desk in its place. If it is one, {why}"
+    return f"{message}. Put a copy of that desk in its place. If it is one, {why}"
 
 
-def told_differences(entries, found, made):
+def public_differences(entries, found, made):
     """A line for each row and column that differs. Of the ballots of a vote that is running it is only said whether any
     differs: each line would tell of one that it came."""
-    hidden = {int(number) for number in running(entries)}
+    hidden = {int(number) for number in running_votes(entries)}
     for rows in found, made:
         hidden |= {key[0] for key, row in rows["resolution"].items() if row["stage"] == VOTING}
-    lines = list(differences(*({**rows, "ballot2": ballots_in(rows, hidden, False)} for rows in (found, made))))
+    lines = list(differences(*({**rows, "ballot2": ballot_rows(rows, hidden, False)} for rows in (found, made))))
     for number in sorted(hidden, key=repr):
-        if ballots_in(found, {number}, True) != ballots_in(made, {number}, True):
+        if ballot_rows(found, {number}, True) != ballot_rows(made, {number}, True):
             lines.append(f"ballot2 resolution {number}: its ballots differ, and no more is said while it is in voting")
     return lines
 
 
-def ballots_in(rows, numbers, is_of_them):
+def ballot_rows(rows, numbers, is_of_them):
     """The rows of the ballots on these resolutions, or on all others."""
     return {key: row for key, row in rows["ballot2"].items() if (key[0] in numbers) == is_of_them}
 

@@ -1,0 +1,1 @@
+"""Tests of journals, and of acts on their way to a desk."""
