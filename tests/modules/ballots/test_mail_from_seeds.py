@@ -12,12 +12,13 @@ from pathlib import Path
 
 from tests.support.case import Case
 from tests.support.made_boxes import box_differences
-from tests.support.made_heads import another_than_by
+from tests.support.made_heads import Head, another_than_by
 from tests.support.made_mails import differences, made, mails_in, outcome
 from tests.support.made_parts import boundary_of, shows_other_armour, text_leaf
 from tests.support.made_texts import (
     BEGIN, END, GPG_ALONE, SIGNATURE, SIGNATURE_END, SIGNED, UNCLEAR, Ballot, Luck, Reason, Text, made_form, made_text,
     not_signed, post)
+from tests.support.made_trees import Maker
 
 SEEDS = range(1, 2_001)
 BOXES = range(1, 201)
@@ -95,6 +96,18 @@ class Truths(Case):
             while len(found) < 40:
                 found.append(boundary_of(luck, *found))
             self.assertEqual(len(set(found)), len(found))
+
+    def test_what_is_like_a_boundary_is_none_of_another_part(self):
+        alike = 0
+        for seed in range(1_000):
+            maker = Maker(Luck(seed), None, b"\n", Head())
+            nodes = [maker.multi() for _ in range(60)]
+            marks = {f"--{boundary}" for boundary in maker.boundaries}
+            for node in nodes:
+                found = {line for line in node.preamble.lines if line.startswith(f"--{node.boundary}")}
+                alike += len(found)
+                self.assertFalse(found & marks)
+        self.assertGreaterEqual(alike, 1_000)
 
 
 @cache
