@@ -231,6 +231,8 @@ CASES = {
     "one with a line of more than 10,000 bytes, which gpg may pass over": [
         spoilt("Hash: SHA512\n", f"Hash: SHA512\n{' ' * 10_001}\n"), signed("x" * 10_001 + f"\n{FILLED}"),
         mail(signed().replace("SHA512", "SHA512" + "=20" * 3_400), "Content-Transfer-Encoding: quoted-printable")],
+    "one in quoted-printable with an encoded LF, if the file shows its armour lines": [
+        mail(spoilt("Hash: SHA512\n\n", "Hash: SHA512=0A=0A"), "Content-Transfer-Encoding: quoted-printable")],
     "one whose signature has a text in it": [spoilt("\niAEE\n", "\nkA0DAAgBqqqqqqqqqqoBrBJiAGlvbGQgcG9zdAo=\n")],
     "a `multipart/signed` that has not a text and its signature alone": [
         parts("signed", plain()), parts("signed", plain(), plain(), SIGNATURE), parts("signed", SIGNATURE, plain())],
@@ -256,7 +258,8 @@ CASES = {
     "a field `Content-Type` that programs read in different ways": [
         mail(FILLED, "Content-Type : text/plain"), mail(FILLED, "Content-Type: text/plain; charset*=x; charset*0=y"),
         mail(FILLED, "Content-Type: text/plain; charset*=u\0tf'x"), mail(FILLED, f"Content-Type{NO_BREAK}: text/plain"),
-        mail(FILLED, 'Content-Type: multipart/mixed; boundary=a; boundary="b"'), mail(FILLED, "Content-Type: text")],
+        mail(FILLED, 'Content-Type: multipart/mixed; boundary=a; boundary="b"'), mail(FILLED, "Content-Type: text"),
+        mail(f"--a\n\n{FILLED}--a--\n", 'Content-Type: multipart/mixed; boundary="a "')],
     "two fields `Message-ID` that differ": [mail(FILLED, "Message-ID: <2@example.org>")],
     "parts with no line between them": [mail(FILLED, "Content-Type: multipart/mixed")],
     "parts in one another, a thousand deep": [nested(1_000)],

@@ -82,6 +82,11 @@ def hidden(luck):
     return luck.choice([f"<by {by}>", f"<a@by> <x; by {by}>", "<d1@example.org>", f"<by@{by}>"])
 
 
+def another_than_by(word):
+    """A word before which no host stands."""
+    return f"{word}x" if word.lower() == "by" else word
+
+
 def received_field(luck):
     """The lines of a field, and the moments that may be taken from it."""
     is_host = luck.chance(0.7)
@@ -96,7 +101,7 @@ def received_field(luck):
         words += ["by", luck.choice([HOST, "mx.other.net"]), "with", "ESMTP"]
     words += ["by", by, *[hidden(luck) for _ in range(luck.randint(0, 1))], "with", "ESMTPS", "id", luck.word(4, 12)]
     if luck.chance(0.2):
-        words.append(f"; id {luck.word(2, 5)}")
+        words.append(f"; id {another_than_by(luck.word(2, 5))}")
     if luck.chance(0.5):
         luck.kinds.add("Received with for <..>")
         words += ["for", luck.choice(["<d1@example.org>", f"<by@{HOST}>", f"<x by {HOST}>", f"<by mx.other.net>"])]

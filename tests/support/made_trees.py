@@ -54,7 +54,8 @@ class Maker:
         if self.luck.chance(0.05):
             self.luck.kinds.add("what is like a boundary")
             mark = f"--{boundary}"
-            made.preamble = Text([f" {mark}", f"{mark}x", f"> {mark}", mark[:-1], f"x\r{mark}\rx", f"{mark}-"])
+            # No boundary is another one with an underscore behind it.
+            made.preamble = Text([f" {mark}", f"{mark}_x", f"> {mark}", mark[:-1], f"x\r{mark}\rx", f"{mark}-"])
         if self.luck.chance(0.1):
             made.name = "Multipart"
         return made

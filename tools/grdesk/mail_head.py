@@ -154,7 +154,11 @@ class Head:
                 if name in values or name not in ("charset", "boundary"):
                     raise NotRead(IS_UNUSUAL.format(TYPE))
                 values[name] = unquoted(value.strip(" \t"))
-        return Kind(first.lower(), values.get("charset"), values.get("boundary"))
+        boundary = values.get("boundary")
+        # Some programs leave out blanks at its end (RFC 2046, 5.1.1).
+        if boundary and boundary[-1] in " \t":
+            raise NotRead(IS_UNUSUAL.format(TYPE))
+        return Kind(first.lower(), values.get("charset"), boundary)
 
     def encoding(self):
         """How the part is encoded, in small letters."""

@@ -195,7 +195,7 @@ class Mails(ReadingCase):
 
     def test_parameters_that_parsers_stumble_over_are_refused_by_name(self):
         for said in ("charset*=x; charset*0=y", "charset*=u\0tf'x", "charset*1=a; charset*0=b", "charset=a; charset=b",
-                     'charset="a', 'charset="a"b', "charset*=utf-8''utf-8", "charset=(a"):
+                     'charset="a', 'boundary="a "', 'boundary="a\t"', 'charset="a"b', "charset*=utf-8''utf-8", "charset=(a"):
             with self.subTest(said=said):
                 self.assertEqual(line_of(mail(FILLED, f"Content-Type: text/plain; {said}")), IS_UNUSUAL)
         for said in ("name=a b (1).txt", 'name*=utf-8\'\'x; name*0="y"', "format=flowed; charset=utf-8;",
@@ -225,6 +225,8 @@ def large_mails():
     key, end = "-----BEGIN PGP PUBLIC KEY BLOCK-----\n\n", "-----END PGP PUBLIC KEY BLOCK-----\n"
     signed, signature = "-----BEGIN PGP SIGNED MESSAGE-----\n\n", "-----BEGIN PGP SIGNATURE-----\n"
     in_base64, in_quoted = (f"Content-Transfer-Encoding: {each}" for each in ("base64", "quoted-printable"))
+    kind = 'Content-Type: multipart/mixed; boundary="{0}"\n\n--{0}\n'
+    levels = b"From: x\n" + "".join(kind.format("a" + " " * blanks) for blanks in range(28, -1, -1)).encode()
     in_parts = mail("", 'Content-Type: multipart/signed; boundary="b"') + b"--b\n\nx\n--b\n"
     many_keys = keys(99, 4_999).encode()
     return {
@@ -239,6 +241,7 @@ def large_mails():
         "lines in base64": mail("\n" * size + "!", in_base64),
         "marks in base64": mail("!" * size, in_base64),
         "attached mails": attached_encoded(29, size - 3_000),
+        "lines that are almost between parts": levels + (b"--a" + b" " * 100 + b"x\n") * 95_000,
         "senders": mail("", *['From: "' + "x" * 9_990] * 10),
     }
 

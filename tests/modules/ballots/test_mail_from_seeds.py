@@ -12,11 +12,13 @@ from pathlib import Path
 
 from tests.support.case import Case
 from tests.support.made_boxes import box_differences
+from tests.support.made_heads import Head, another_than_by
 from tests.support.made_mails import differences, made, mails_in, outcome
 from tests.support.made_parts import boundary_of, shows_other_armour, text_leaf
 from tests.support.made_texts import (
     BEGIN, END, GPG_ALONE, SIGNATURE, SIGNATURE_END, SIGNED, UNCLEAR, Ballot, Luck, Reason, Text, made_form, made_text,
     not_signed, post)
+from tests.support.made_trees import Maker
 
 SEEDS = range(1, 2_001)
 BOXES = range(1, 201)
@@ -85,12 +87,27 @@ class Truths(Case):
                 self.assertTrue(leaf.body.startswith((b"\xef\xbb\xbf", b"=EF", b"77u/")), leaf.body)
         self.assertGreaterEqual(marked, 10)
 
+    def test_no_word_before_a_host_is_by_but_those_that_are_meant(self):
+        self.assertEqual([*map(another_than_by, ("bY", "By", "by1", "b"))], ["bYx", "Byx", "by1", "b"])
+
     def test_no_two_boundaries_of_a_mail_are_one(self):
         for seed in range(200):
             luck, found = Luck(seed), ["b"]
             while len(found) < 40:
                 found.append(boundary_of(luck, *found))
             self.assertEqual(len(set(found)), len(found))
+
+    def test_what_is_like_a_boundary_is_none_of_another_part(self):
+        alike = 0
+        for seed in range(1_000):
+            maker = Maker(Luck(seed), None, b"\n", Head())
+            nodes = [maker.multi() for _ in range(60)]
+            marks = {f"--{boundary}" for boundary in maker.boundaries}
+            for node in nodes:
+                found = {line for line in node.preamble.lines if line.startswith(f"--{node.boundary}")}
+                alike += len(found)
+                self.assertFalse(found & marks)
+        self.assertGreaterEqual(alike, 1_000)
 
 
 @cache

@@ -126,6 +126,11 @@ class Texts(ReadingCase):
         self.is_read_as(MORE_THAN_ONE, within=parts("mixed", signed_part(plain("\ufeff" + signed()))),
                         within_as_it_is=mail(WITHIN, 'Content-Type: multipart/signed; boundary="b"'))
 
+    def test_a_mark_before_the_armour_of_a_detached_signature_makes_it_none(self):
+        armour = "\ufeff" + POST[POST.index("-----BEGIN PGP SIGNATURE") :]
+        signature = MIMEApplication(armour.encode(), "pgp-signature", _encoder=as_it_is)
+        self.is_read_as(NO_SIGNATURE_IN_IT, mail=parts("signed", plain(), signature))
+
     def test_a_lone_cr_in_quoted_printable_hides_nothing(self):
         content = mail("x=\rhidden\ny", "Content-Transfer-Encoding: quoted-printable")
         self.assertEqual(mail_of(content).written().text, "x=\rhidden\ny")
@@ -328,6 +333,18 @@ class Gpg(ReadingCase):
         # In quoted-printable the lines are as long in the file, and a third of that once they are decoded.
         shortened = with_form(self.post_as_in_quoted_printable(), "=20" * 6_700)
         self.are_refused({"quoted-printable": mail(shortened, "Content-Transfer-Encoding: quoted-printable")})
+
+    def test_a_form_in_a_line_of_the_head_in_quoted_printable_is_refused(self):
+        """For gpg that line is no head. It says so, and verifies the post behind it."""
+        for line_end in b"=0A", b"=0D=0A", b"=0a":
+            form_line = b"Hash: x" + line_end * 2 + FILLED.encode().replace(b"\n", line_end) + b"\n"
+            content = self.post_as_in_quoted_printable().replace(b"\n\n", b"\n" + form_line, 1)
+            content = mail(content, "Content-Transfer-Encoding: quoted-printable")
+            with self.subTest(line_end=line_end):
+                ran = self.gpg("--decrypt", given=content)
+                self.assertIn(b"Good signature", ran.stderr)
+                self.assertIn(b"tea", ran.stdout)
+                self.assertEqual(line_of(content), BESIDE)
 
     def post_as_in_quoted_printable(self):
         """The post, of which the armour has one = that stands before no byte in quoted-printable."""

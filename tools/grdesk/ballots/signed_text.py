@@ -23,6 +23,8 @@ ENCRYPTED = ["multipart/encrypted", "application/pgp-encrypted", "application/pk
 PGP_SIGNATURE = "application/pgp-signature"
 SIGNATURES = [PGP_SIGNATURE, "application/pkcs7-signature", "application/x-pkcs7-signature"]
 MARKERS = BEGIN.encode(), END.encode()
+# The end of a line in quoted-printable that is none in the file.
+LINE_END = re.compile(rb"=0[Aa]")
 # Versions of signatures, and methods of compression.
 VERSION = re.compile(rb"[\0-\6]")
 
@@ -139,8 +141,9 @@ class MailOfParts:
         as_it_is = [(self.content, self.raw)] if self.raw else []
         for whole, its_lines in ((content, lines), *as_it_is):
             check_lengths(whole, its_lines)
-            begin, end = its_lines[-2:]
-            if begin.armour is not Armour.SIGNATURE or not is_signature(whole[begin.end : end.begin]):
+            pair = its_lines[-2:]
+            is_pair = [line.armour for line in pair] == DETACHED
+            if not is_pair or not is_signature(whole[pair[0].end : pair[1].begin]):
                 raise NotRead(NO_SIGNATURE_IN_IT)
 
     def check_armour(self, taken):
@@ -155,10 +158,13 @@ class MailOfParts:
 
     def is_same(self, taken):
         """Whether the armour lines of a part are those of the file too, or of the part alone once it is decoded. A line
-        of the one may be in the midst of a line of the other."""
+        of the one may be in the midst of a line of the other, and a line of the file may be several once it is decoded:
+        what a verifier passes over as one line of a head could have a form in it."""
         if not self.raw:
             return True
         if len(self.raw) > len(WHOLE) or len(self.raw) != len(self.armour_of(taken)):
+            return False
+        if LINE_END.search(self.content, self.raw[0].begin, self.raw[-1].end):
             return False
         before = (Part(self.content, taken.begin, line.begin, encoding=taken.encoding).content for line in self.raw)
         return taken.encoding == "quoted-printable" and all(not each or each.endswith(b"\n") for each in before)
