@@ -442,7 +442,7 @@ class OpenVotes(JournalCase):
         ran += [self.desk.tool("replay"), self.desk.tool("check"), self.desk.tool("settle", "v4", "accepted")]
         ran += [self.desk.tool("settle", "v4", "accepted", "--as", "11"), self.desk.tool("settle", "v4", "refused")]
         for came in ran:
-            is_silent("a tool", came, *SECRETS, receipt(1, "d4", "tokenA05"), "number 11 of", "ok 9", "ok 1")
+            is_silent("a tool", came, *SECRETS, receipt(1, "d4", "tokenA05"), "act 11 of", "ok 9", "ok 1")
 
     def test_a_check_says_of_the_ballots_of_a_running_vote_only_that_they_differ(self):
         put_back(self.desk, self.night)

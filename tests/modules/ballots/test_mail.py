@@ -195,7 +195,8 @@ class Mails(ReadingCase):
 
     def test_parameters_that_parsers_stumble_over_are_refused_by_name(self):
         for said in ("charset*=x; charset*0=y", "charset*=u\0tf'x", "charset*1=a; charset*0=b", "charset=a; charset=b",
-                     'charset="a', 'boundary="a "', 'boundary="a\t"', 'charset="a"b', "charset*=utf-8''utf-8", "charset=(a"):
+                     'charset="a', 'boundary="a "', 'boundary="a\t"', 'charset="a"b', "charset*=utf-8''utf-8",
+                     "charset=(a"):
             with self.subTest(said=said):
                 self.assertEqual(line_of(mail(FILLED, f"Content-Type: text/plain; {said}")), IS_UNUSUAL)
         for said in ("name=a b (1).txt", 'name*=utf-8\'\'x; name*0="y"', "format=flowed; charset=utf-8;",
