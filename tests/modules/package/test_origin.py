@@ -1,5 +1,6 @@
 """What the file beside a package says of the sources: their commit, changes that no commit has, or that there is
-none.""" import sys
+none."""
+import sys
 from types import SimpleNamespace
 from unittest import mock
 
