@@ -7,7 +7,7 @@ import subprocess
 from tests.support.case import Case
 from tests.support.in_process import loaded
 from tests.support.one_developer import OK, ROLL, fails, new_desk, unchanged
-from tests.support.program import T0, TOP, Ran, run, tool
+from tests.support.program import T0, TOP, Ran, run, serve, tool
 
 COMMANDS = (
     "act agenda alarm backup ballot clock copy_out health install journal manual package page restore roll_diff voters "
@@ -241,3 +241,45 @@ class Ends(Case):
             ran = subprocess.run(line, stdout=full, stderr=subprocess.PIPE, check=False)
         text = b"recount: failed: OSError: [Errno 28] No space left on device\n"
         self.assertEqual((ran.returncode, ran.stderr), (3, text))
+
+
+class Program(Case):
+    """The subcommands of the program, as gr-desk runs them."""
+
+    OPENING = ["init"], ["roll"], ["status", 1], ["tally", 1], ["result", 1]
+
+    def is_explained(self, file, why, cwd=None, opening=OPENING):
+        for name, *number in opening:
+            with self.subTest(name=name):
+                own = f"gr-desk {name}: cannot open {file}: {why}\n"
+                expected = Ran(3, b"", f"fault F2 Store\n{own}".encode())
+                self.assertEqual(tool(name, file, *number, cwd=cwd), expected)
+
+    def test_a_desk_that_another_process_has_open_is_named_with_that(self):
+        file = new_desk(self.folder() / "desk.db")
+        with serve(file, 1, "--at", T0):
+            self.is_explained(file, "another process has it open, for example `serve`")
+
+    def test_a_file_that_is_no_desk_is_named_with_what_may_be_wrong(self):
+        place = self.folder()
+        (place / "notes").write_text("no desk")
+        why = "it is damaged or no desk, or this account may not write in its folder"
+        self.is_explained("notes", why, place, self.OPENING[1:])
+
+    def test_a_folder_that_is_not_there_is_named(self):
+        place = self.folder()
+        self.is_explained("frob/desk.db", "its folder is not there", place, self.OPENING[:1])
+
+    def test_what_opens_has_the_programs_own_answer(self):
+        file = new_desk(self.folder() / "desk.db")
+        self.assertEqual(tool("roll", file), run("roll", file))
+        self.assertEqual(tool("status", file, 1), run("status", file, 1))
+        self.assertEqual(tool("roll"), run("roll"))
+        self.assertEqual(tool("roll", "--help"), run("roll", "--help"))
+
+    def test_help_is_that_of_a_tool_a_subcommand_or_the_program(self):
+        self.assertEqual(tool("help"), run("--help"))
+        self.assertEqual(tool("help", "tally"), run("tally", "--help"))
+        self.assertEqual(tool("help", "act", "vote"), tool("act", "vote", "--help"))
+        self.assertEqual(tool("help", "clock"), tool("clock", "--help"))
+        self.assertEqual(tool("help", "recount"), tool("recount", "--help"))

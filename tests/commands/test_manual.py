@@ -226,7 +226,7 @@ class Completion(Written):
     def test_each_tool_and_each_subcommand_is_offered(self):
         names = sorted([*COMMAND_NAMES, *SUBCOMMANDS, "help"])
         self.assertEqual(self.completed(""), names)
-        self.assertEqual(sorted(self.completed("help", "")), sorted(SUBCOMMANDS))
+        self.assertEqual(sorted(self.completed("help", "")), sorted([*TOOLS, *SUBCOMMANDS]))
 
     def test_words_options_and_fields_are_completed(self):
         for words, expected in COMPLETED:
@@ -244,6 +244,12 @@ class Completion(Written):
                 self.assertEqual(wanted - offered, set())
             count += len(wanted)
         self.assertGreater(count, 100)
+
+    def test_after_a_subcommand_no_other_one_is_offered(self):
+        for words in ["act", "propose"], ["journal", "replay"], ["ballot", "read"]:
+            with self.subTest(words=words):
+                others = {*loaded(words[0]).parser().subcommands}
+                self.assertEqual({*self.completed(*words, "")} & others, set())
 
     def test_after_an_option_with_a_value_the_name_of_a_file_is_completed(self):
         for words in ["backup", "--keep", ""], ["act", "--desk", ""], ["journal", "replay", "--from", ""]:

@@ -1,15 +1,23 @@
 """Run a tool of the voting desk, or a subcommand of its program"""
 import os
 import signal
+import subprocess
 import sys
 from importlib import import_module
 
+from grdesk.desk.copy import is_locked
 from grdesk.desk.program import program
+from grdesk.desk.room import why_no_room
 from grdesk.error import Failed, Stop, Wrong
 from grdesk.interruption import ENDS, end
 from grdesk.inventory import commands, examples, laid_down
-from grdesk.output import note, running, say
+from grdesk.output import hand_on, note, running, say
 from grdesk.parser import Parser
+
+
+# The subcommands that open the desk of a FILE, and the line of the program if they cannot.
+OPENING = "init", "roll", "status", "tally", "result"
+NOT_OPENED = b"fault F2 Store\n"
 
 
 def purpose(path):
@@ -25,7 +33,7 @@ def parser():
     command = Parser(
         "",
         __doc__,
-        ["TOOL ..", "SUBCOMMAND ..", "help [SUBCOMMAND]", "--version"],
+        ["TOOL ..", "SUBCOMMAND ..", "help [TOOL | SUBCOMMAND]", "--version"],
         statuses=[("", "that of the tool or of the program")],
     )
     for name, path in sorted(laid_down().items()):
@@ -40,7 +48,7 @@ def run_here(name, words):
     return command.run(command.parser().read(words))
 
 
-def hand_on(path, words):
+def run_instead(path, words):
     """Runs an example or the program in the place of this one."""
     # Python has these ignored, and what is run would have them so too.
     for number in signal.SIGPIPE, signal.SIGXFSZ:
@@ -51,20 +59,59 @@ def hand_on(path, words):
         raise Failed(f"{path} cannot be run: {error.strerror}") from None
 
 
+def open_by_program(words):
+    """Runs a subcommand that opens a desk. If the program cannot open it, a line of its own says why that may be."""
+    with subprocess.Popen([program(), *words], stderr=subprocess.PIPE) as process:
+        text = process.stderr.read()
+    hand_on(text)
+    if process.returncode < 0:
+        # It ends as the program did, for example if nobody reads its output.
+        signal.signal(-process.returncode, signal.SIG_DFL)
+        os.kill(os.getpid(), -process.returncode)
+    if text == NOT_OPENED:
+        running.append(words[0])
+        note(why_not_opened(next((word for word in words[1:] if not word.startswith("-")), "")))
+    return process.returncode
+
+
+def why_not_opened(name):
+    """What may be wrong with a desk that the program does not open."""
+    path = os.path.realpath(name)
+    if not os.path.isdir(os.path.dirname(path)):
+        return f"cannot open {name}: its folder is not there"
+    if full := why_no_room(path):
+        return f"cannot open {name}: {full}"
+    if os.path.exists(path) and not os.access(path, os.R_OK | os.W_OK):
+        return f"cannot open {name}: this account may not read or write it"
+    if os.path.exists(path) and is_locked(path):
+        return f"cannot open {name}: another process has it open, for example `serve`"
+    return f"cannot open {name}: it is damaged or no desk, or this account may not write in its folder"
+
+
+def help_of(words):
+    """Prints the help of a tool, an example or a subcommand, or that of the program."""
+    first = words[0] if words else ""
+    if first in commands():
+        return run_here(first, [*words[1:], "--help"])
+    return run_instead(examples().get(first) or program(), [*(words if first not in examples() else []), "--help"])
+
+
 def gr_desk(words):
     first = words[0] if words else ""
     if first in ("-h", "--help"):
         say(parser().format_help().encode())
         return 0
     if first == "help":
-        return hand_on(program(), [*words[1:], "--help"])
+        return help_of(words[1:])
+    if first in OPENING and not {"-h", "--help"} & {*words}:
+        return open_by_program(words)
     if first in commands():
         return run_here(first, words[1:])
     if path := examples().get(first):
-        return hand_on(path, words[1:])
+        return run_instead(path, words[1:])
     if not first or first.startswith("-") and first != "--version":
         raise Wrong("the words are TOOL or SUBCOMMAND, and its own; gr-desk --help lists the tools")
-    return hand_on(program(), words)
+    return run_instead(program(), words)
 
 
 class Words:

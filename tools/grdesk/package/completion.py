@@ -39,7 +39,7 @@ def fields_of(parser):
 
 def arm(indent, what, words):
     """A line of a `case` in the language of the shell."""
-    return f'{" " * indent}"{what}") words+=" {" ".join(words)}" ;;'
+    return f'{" " * indent}"{what}") words="{" ".join(words)}" ;;'
 
 
 def name_of(parser):
@@ -62,12 +62,11 @@ def completion(program, examples, parsers):
     tools = [arm(8, name_of(each), [*options_of(each), *each.subcommands]) for each in parsers]
     tools += [arm(8, each.words[-1], sorted({*each.options(), "--help"})) for each in (*program, *examples)]
     subcommands = [each.words[-1] for each in program]
-    tools.append(arm(8, "help", subcommands))
+    tools.append(arm(8, "help", [*map(name_of, parsers), *subcommands]))
     commands = [
-        arm(12, f"{name_of(each)} {name}", words)
+        arm(12, f"{name_of(each)} {name}", [*options_of(each), *options_of(command)[1:], *fields_of(command)])
         for each in parsers
         for name, command in each.subcommands.items()
-        if (words := [*options_of(command)[1:], *fields_of(command)])
     ]
     called = [*map(name_of, parsers), *subcommands, *(each.words[-1] for each in examples), "help"]
     names = " ".join(sorted(called))
