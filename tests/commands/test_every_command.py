@@ -3,6 +3,7 @@ written, and where an error occurs that no tool expects. Every text is compared 
 import os
 import re
 import subprocess
+from importlib import import_module
 
 from tests.support.case import Case
 from tests.support.in_process import loaded
@@ -276,6 +277,11 @@ class Program(Case):
         self.assertEqual(tool("status", file, 1), run("status", file, 1))
         self.assertEqual(tool("roll"), run("roll"))
         self.assertEqual(tool("roll", "--help"), run("roll", "--help"))
+
+    def test_each_subcommand_of_the_program_is_one_of_gr_desk(self):
+        commands = run("--help").out.decode().partition("Commands:\n")[2].partition("\n\n")[0]
+        names = [line.split()[0] for line in commands.splitlines()]
+        self.assertEqual(names, [*import_module("grdesk.cli").SUBCOMMANDS])
 
     def test_help_is_that_of_a_tool_a_subcommand_or_the_program(self):
         self.assertEqual(tool("help"), run("--help"))

@@ -32,6 +32,7 @@ from tests.support.program import LOCAL, PATIENCE, T0, TOP, Ran, ask, expect, fr
 BEGAN = time.time()
 NO_UNIT = 'PREFIX has a character that no unit can name: ", \\, $ or a line end'
 NO_WORDS = b"gr-desk: the words are TOOL or SUBCOMMAND, and its own; gr-desk --help lists the tools\n"
+NO_COMMAND = b"gr-desk: there is no tool or subcommand 'frob'; gr-desk --help and gr-desk help list them\n"
 NO_OPTION = b"gr-desk clock: there is no option '--frob'; gr-desk clock --help says more\n"
 
 def install(*words, **options):
@@ -205,7 +206,7 @@ class Command(Installed):
             (["help"], runs([program, "--help"])),
             (["help", "init"], runs([program, "init", "--help"])),
             (["--version"], runs([program, "--version"])),
-            (["frob"], runs([program, "frob"])),
+            (["frob"], Ran(2, b"", NO_COMMAND)),
             (["clock", "--frob"], Ran(2, b"", NO_OPTION)),
             (["agenda", " a  b\n"], runs([self.place / "tools" / "gr-desk", "agenda", " a  b\n"])),
         ]:

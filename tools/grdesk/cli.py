@@ -15,7 +15,9 @@ from grdesk.output import hand_on, note, running, say
 from grdesk.parser import Parser
 
 
-# The subcommands that open the desk of a FILE, and the line of the program if they cannot.
+# The subcommands of the program.
+SUBCOMMANDS = "init", "once", "serve", "import", "roll", "status", "tally", "result", "migrate"
+# Those that open the desk of a FILE, and the line of the program if they cannot.
 OPENING = "init", "roll", "status", "tally", "result"
 NOT_OPENED = b"fault F2 Store\n"
 
@@ -111,6 +113,8 @@ def gr_desk(words):
         return run_instead(path, words[1:])
     if not first or first.startswith("-") and first != "--version":
         raise Wrong("the words are TOOL or SUBCOMMAND, and its own; gr-desk --help lists the tools")
+    if first not in (*SUBCOMMANDS, "--version"):
+        raise Wrong(f"there is no tool or subcommand {first!r}; gr-desk --help and gr-desk help list them")
     return run_instead(program(), words)
 
 
