@@ -267,6 +267,13 @@ class Program(Case):
         why = "it is damaged or no desk, or this account may not write in its folder"
         self.is_explained("notes", why, place, self.OPENING[1:])
 
+    def test_what_is_no_regular_file_is_named_and_nothing_waits_for_it(self):
+        place = self.folder()
+        (place / "folder").mkdir()
+        os.mkfifo(place / "pipe")
+        for name in "folder", "pipe":
+            self.is_explained(name, "it is not a regular file", place, self.OPENING[1:])
+
     def test_a_folder_that_is_not_there_is_named(self):
         place = self.folder()
         self.is_explained("frob/desk.db", "its folder is not there", place, self.OPENING[:1])

@@ -1,7 +1,6 @@
 """What gr-desk install puts into a folder: the program itself and the tools, which work from there and are replaced
-whole, also by gr-desk; the man pages, which have each word of the help texts in their order, and no warning where the
-machine has `man`; what completes the words of gr-desk in bash, which offers no option that a tool does not take; and
-the units, which name the folder, enable nothing, and pass `systemd-analyze verify` where the machine has it."""
+whole, also by gr-desk; the man pages and the completion, which are those that gr-desk manual writes; and the units,
+which name the folder, enable nothing, and pass `systemd-analyze verify` where the machine has it."""
 import os
 import re
 import shutil

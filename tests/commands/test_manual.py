@@ -226,7 +226,7 @@ class Completion(Written):
     def test_each_tool_and_each_subcommand_is_offered(self):
         names = sorted([*COMMAND_NAMES, *SUBCOMMANDS, "help"])
         self.assertEqual(self.completed(""), names)
-        self.assertEqual(sorted(self.completed("help", "")), sorted([*TOOLS, *SUBCOMMANDS]))
+        self.assertEqual(sorted(self.completed("help", "")), sorted([*COMMAND_NAMES, *SUBCOMMANDS]))
 
     def test_words_options_and_fields_are_completed(self):
         for words, expected in COMPLETED:

@@ -14,7 +14,6 @@ from grdesk.inventory import commands, examples, laid_down
 from grdesk.output import hand_on, note, running, say
 from grdesk.parser import Parser
 
-
 # The subcommands of the program.
 SUBCOMMANDS = "init", "once", "serve", "import", "roll", "status", "tally", "result", "migrate"
 # Those that open the desk of a FILE, and the line of the program if they cannot.
@@ -81,6 +80,8 @@ def why_not_opened(name):
     path = os.path.realpath(name)
     if not os.path.isdir(os.path.dirname(path)):
         return f"cannot open {name}: its folder is not there"
+    if os.path.exists(path) and not os.path.isfile(path):
+        return f"cannot open {name}: it is not a regular file"
     if full := why_no_room(path):
         return f"cannot open {name}: {full}"
     if os.path.exists(path) and not os.access(path, os.R_OK | os.W_OK):

@@ -156,8 +156,8 @@ class Parser(Reader):
     def sections(self):
         """The parts of the help that list words: the title of each, and its actions. A subcommand takes the options of
         its command too."""
-        arguments = [each for each in self._positionals._group_actions if each is not self.children]
-        options = [*self._optionals._group_actions]
+        arguments = [each for each in self.own_actions() if not each.option_strings]
+        options = [each for each in self.own_actions() if each.option_strings]
         if self.parent:
             options += [each for each in self.parent._optionals._group_actions if each.dest != "help"]
         commands = [*self.children._get_subactions()] if self.children else []

@@ -61,15 +61,14 @@ def completion(program, examples, parsers):
     and `examples` are the help of the program's subcommands and of the examples, which have no parser."""
     tools = [arm(8, name_of(each), [*options_of(each), *each.subcommands]) for each in parsers]
     tools += [arm(8, each.words[-1], sorted({*each.options(), "--help"})) for each in (*program, *examples)]
-    subcommands = [each.words[-1] for each in program]
-    tools.append(arm(8, "help", [*map(name_of, parsers), *subcommands]))
+    called = [*map(name_of, parsers), *(each.words[-1] for each in (*program, *examples))]
+    tools.append(arm(8, "help", called))
     commands = [
         arm(12, f"{name_of(each)} {name}", [*options_of(each), *options_of(command)[1:], *fields_of(command)])
         for each in parsers
         for name, command in each.subcommands.items()
     ]
-    called = [*map(name_of, parsers), *subcommands, *(each.words[-1] for each in examples), "help"]
-    names = " ".join(sorted(called))
+    names = " ".join(sorted([*called, "help"]))
     values = "\n".join(sorted(set(values_of(parsers))))
     script = SCRIPT.replace("NAMES", names).replace("VALUES", values)
     return script.replace("TOOLS", "\n".join(tools)).replace("COMMANDS", "\n".join(commands))
